@@ -58,13 +58,7 @@ fn lower(a: Option<i32>, b: Option<i32>) -> Option<i32>
     match (a, b) {
         (None, o) => o,
         (Some(x), None) => Some(x),
-        (Some(x), Some(y)) => {
-            if x <= y {
-                Some(x)
-            } else {
-                Some(y)
-            }
-        }
+        (Some(x), Some(y)) => { if x <= y { Some(x) } else { Some(y) } }
     }
 }
 

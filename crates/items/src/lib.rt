@@ -47,3 +47,14 @@ pub enum Entry<C> {
     Any,
     Cell(C),
 }
+
+// How much of its four lists a sheet uses: so many quantities, rows, columns and nevers from the
+// front of theirs, and whether it has a default result.
+#[derive(Clone, Copy)]
+pub struct Counts {
+    pub quantities: usize,
+    pub rows: usize,
+    pub columns: usize,
+    pub nevers: usize,
+    pub default: bool,
+}

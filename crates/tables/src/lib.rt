@@ -1,2 +1,0 @@
-// What a sheet means: the words its definitions and the code share.
-pub mod types;
