@@ -1,0 +1,47 @@
+// Issuing a draft and withdrawing an issued sheet.
+use crate::states::Draft;
+use crate::states::Issued;
+use encounters::seek::find_fault;
+use faults::SheetFault;
+use kinds::Kind;
+use lists::lent::Lists;
+use lists::lent::Showing;
+use results::ResultKind;
+
+// The count of a sheet, or the first refusal.
+fn examine<K: Kind, R: ResultKind>(
+    draft: &Draft,
+    lists: &Lists<'_, K, R>,
+    at: &mut Showing<'_, K::Value>,
+) -> Result<u32, SheetFault> {
+    let view = lists.checked(draft.counts())?;
+    find_fault(&view, at)
+}
+
+impl Draft {
+    // Turns the draft into an issued sheet and tells its count, or gives the draft back with the
+    // first refusal.
+    pub fn issue<K: Kind, R: ResultKind>(
+        self,
+        lists: &Lists<'_, K, R>,
+        at: &mut Showing<'_, K::Value>,
+    ) -> Result<(Issued, u32), (Draft, SheetFault)> {
+        match examine(&self, lists, at) {
+            Ok(count) => Ok((self.into_issued(), count)),
+            Err(fault) => Err((self, fault)),
+        }
+    }
+}
+
+impl Issued {
+    // Gives the draft with the same contents.
+    pub fn withdraw<K: Kind, R: ResultKind>(
+        self,
+        lists: &Lists<'_, K, R>,
+    ) -> Result<Draft, (Issued, SheetFault)> {
+        match lists.checked(self.counts()) {
+            Ok(_) => Ok(self.into_draft()),
+            Err(fault) => Err((self, fault)),
+        }
+    }
+}
