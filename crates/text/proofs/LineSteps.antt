@@ -6,12 +6,13 @@ use Prim.Native.Nat.{ℕ, suc, _+_, _-_, _≤_, _<_}
 use native.Mathlib.Omega.{arith}
 use lib.Dec.{eqb, leb}
 use lib.ListN.{length, take, drop, getD}
-use Rattle.std.proofs.shelf.Lists.{at-drop-all, drop-drop, drop-more}
+use Rattle.std.proofs.shelf.Lists.{at-drop-all, drop-drop, drop-more, length-take-le}
+use Rattle.std.proofs.shelf.Tests.{cond-true, le-leb}
 use Rattle.std.specs.declared.result.Result.{Result}
 use Rattle.std.specs.declared.result.Result.the-variants.{Ok, Err}
 use Rattle.text.specs.Fields.{inFront, upTo}
 use Rattle.text.specs.Forms.{onward, none, formed, rest, restAt}
-use Rattle.text.specs.Lines.{placed, inRow}
+use Rattle.text.specs.Lines.{placed, inRow, entries, Kept}
 use Rattle.text.specs.Pages.{lined}
 use Rattle.text.specs.declared.types.Placed.{Placed}
 
@@ -60,11 +61,19 @@ entries-stop ps n m at fs b k e =
     ap (λ i. following ps (inRow i at fs)) k
     ∙ ap (λ r. following ps (onward r (λ y. onward (inRow m (restAt at fs) (rest fs)) (λ es. Ok (y ∷ es))))) (sym e)
 
--- all entries are read
-pub entries-all : (ps : List Placed) (at : ℕ) (fs : List (List ℕ)) → following ps (none [] at fs) ≡ none ps at fs
-entries-all ps at [] = ap Ok (append-nil ps)
-entries-all ps at (f ∷ fs) = refl
+module _ (n at : ℕ) (fs : List (List ℕ)) (few : n ≤ 16) where
+  within : entries n at fs ≡ inRow n at fs
+  within = cond-true _ _ _ (le-leb n 16 few)
 
-pub formed-none : (ps : List Placed) (at : ℕ) (fs : List (List ℕ)) → formed (none ps at fs) ≡ none tt at fs
-formed-none ps at [] = refl
-formed-none ps at (f ∷ fs) = refl
+  -- what is told and kept where an entry is wrong or missing
+  pub entries-wrong : (b : ℕ) (out : List Placed) → inRow n at fs ≡ Err b → (Err b ≡ formed (entries n at fs)) × Kept (entries n at fs) out
+  entries-wrong b out e =
+      let k : Err b ≡ entries n at fs = sym (within ∙ e) in
+      (ap formed k, subst (λ r. Kept r out) k tt)
+
+  -- and where all entries are read
+  pub entries-all : (out : List Placed) (i to : ℕ) (gs : List (List ℕ)) → i ≤ length out → following (take i out) (none [] to gs) ≡ inRow n at fs → (none tt to gs ≡ formed (entries n at fs)) × Kept (entries n at fs) out
+  entries-all out i to [] near e =
+      let k : Ok (take i out) ≡ entries n at fs = ap Ok (sym (append-nil (take i out))) ∙ e ∙ sym within in
+      (ap formed k, subst (λ r. Kept r out) k (ap (λ m. take m out) (length-take-le i out near)))
+  entries-all out i to (g ∷ gs) near e = entries-wrong to out (sym e)

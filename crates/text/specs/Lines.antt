@@ -68,6 +68,15 @@ column n at fs =
     onward (result at fs) (λ x.
     onward (entries n (restAt at fs) (rest fs)) (λ es. Ok (x, es)))
 
+-- the result of a column, without its entries, and its entries at the front of a list of places
+abbrev pub results : Result (Figure × List Placed) ℕ → Result Figure ℕ
+results (Ok c) = Ok (c .0)
+results (Err b) = Err b
+
+abbrev pub KeptColumn : Result (Figure × List Placed) ℕ → List Placed → Type 0
+KeptColumn (Ok c) out = take (length (c .1)) out ≡ c .1
+KeptColumn (Err b) out = Unit {0}
+
 -- a result, and nothing more
 abbrev pub default : ℕ → List (List ℕ) → Result Figure ℕ
 default at fs = onward (result at fs) (λ x. none x (restAt at fs) (rest fs))
