@@ -1,9 +1,9 @@
 // Cells on a page.
 ghost use mathlib.Core.Path.{_≡_};
-ghost use Prim.Native.Nat.{_+_, _≤_};
+ghost use Prim.Native.Nat.{_+_, _≤_, _<_};
 ghost use lib.ListN.{length};
 ghost use Rattle.std.specs.Options.{Cases as BySome};
-ghost use Rattle.text.specs.Cells.{dots as dotsOf, band as bandOf, window as windowOf, listed as listedOf, names as namesOf, unmarked as unmarkedOf, cell as cellOf, entry as entryOf};
+ghost use Rattle.text.specs.Cells.{dots as dotsOf, band as bandOf, window as windowOf, member as memberOf, listed as listedOf, names as namesOf, unmarked as unmarkedOf, cell as cellOf, entry as entryOf};
 use crate::numbers::measure;
 use crate::numbers::number;
 use crate::numbers::time;
@@ -61,6 +61,18 @@ fn window(bytes: &[u8]) -> Option<Cell>
     }
 }
 
+// The name, 0 to 31, that a part of a set is, which must not stand before `from`.
+fn member(from: u32, part: &[u8]) -> Option<u32>
+    ensures value { λ r. ⌜ r ≡ memberOf from (now (part .entry)) ⌝ }
+    ensures within { λ r. ⌜ BySome r (Unit {0}) (λ n. (from ≤ n) × (n < 32)) ⌝ }
+{
+    let n = number(part)?;
+    if n < from || n > 31 {
+        return None;
+    }
+    Some(n)
+}
+
 // The set of names that a list of ascending ones is, one bit a name.
 fn listed(bytes: &[u8]) -> Option<u32>
     ensures { λ r. ⌜ r ≡ listedOf (now (bytes .entry)) ⌝ }
@@ -73,10 +85,7 @@ fn listed(bytes: &[u8]) -> Option<u32>
     let mut at = 0;
     while at <= bytes.len() {
         let to = until(bytes, at, b',');
-        let n = number(&bytes[at..to])?;
-        if n < from || n > 31 {
-            return None;
-        }
+        let n = member(from, &bytes[at..to])?;
         bits = bits + (1 << n);
         from = n + 1;
         at = to + 1;
@@ -111,7 +120,7 @@ fn unmarked(field: &[u8]) -> Option<Cell>
 }
 
 // A cell, told by its first byte.
-pub fn cell(field: &[u8]) -> Option<Cell>
+fn cell(field: &[u8]) -> Option<Cell>
     ensures { λ r. ⌜ r ≡ cellOf (now (field .entry)) ⌝ }
 {
     if field.len() == 0 {

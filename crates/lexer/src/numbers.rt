@@ -6,7 +6,7 @@ ghost use Rattle.std.specs.Options.{Cases as BySome};
 ghost use Rattle.text.specs.Numbers.{digit as digitOf, number as numberOf, measure as measureOf, time as timeOf, minutes as minutesOf, figures, below, above};
 
 // The digit that a byte is.
-pub fn digit(b: u8) -> Option<u8>
+fn digit(b: u8) -> Option<u8>
     ensures { λ r. ⌜ r ≡ digitOf b ⌝ }
 {
     match b {

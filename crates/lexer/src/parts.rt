@@ -17,7 +17,7 @@ pub fn until(bytes: &[u8], from: usize, sep: u8) -> usize
 }
 
 // The byte at a place, or 0 past the end.
-pub fn byte_at(bytes: &[u8], at: usize) -> u8
+pub(crate) fn byte_at(bytes: &[u8], at: usize) -> u8
     ensures { λ r. ⌜ r ≡ getD (now (bytes .entry)) at 0 ⌝ }
 {
     if at < bytes.len() { bytes[at] } else { 0 }

@@ -3,9 +3,9 @@
 ghost use mathlib.Core.Path.{_≡_};
 ghost use mathlib.Core.List.{[], _∷_};
 ghost use Prim.Native.Nat.{_+_, _≤_};
-ghost use lib.ListN.{length};
+ghost use lib.ListN.{length, drop};
 ghost use Rattle.std.specs.Options.{Cases as BySome};
-ghost use Rattle.text.specs.Fields.{parted};
+ghost use Rattle.text.specs.Fields.{parted, upTo};
 ghost use Rattle.text.specs.Forms.{first, none, rest, restAt};
 ghost use Rattle.text.specs.Numbers.{number as numberOf, measure as measureOf};
 ghost use Rattle.text.specs.Words.{mode as modeOf, kind as kindOf, value as valueOf};
@@ -27,6 +27,14 @@ use lexer::words::value;
 use results::figure::Figure;
 use text::types::KindWord;
 use text::types::Placed;
+
+// The place of the space after the field that starts at `from`, or the line's end.
+fn field_end(line: &[u8], from: usize) -> usize
+    requires { ⌜ from ≤ length (now line) ⌝ }
+    ensures { λ r. ⌜ r ≡ from + upTo 32 (drop from (now (line .entry))) ⌝ ∗ ⌜ r ≤ length (now (line .entry)) ⌝ }
+{
+    until(line, from, b' ')
+}
 
 impl<'a> Fields<'a> {
     // The fields of a line.
@@ -58,13 +66,13 @@ impl<'a> Fields<'a> {
             return None;
         }
         let from = self.at;
-        let to = until(self.line, from, b' ');
+        let to = field_end(self.line, from);
         self.at = to + 1;
         Some(&self.line[from..to])
     }
 
     // The next field, which is to be a number, or the byte to tell.
-    pub fn number(&mut self) -> Result<u32, usize>
+    pub(crate) fn number(&mut self) -> Result<u32, usize>
         ensures value { λ r. ⌜ r ≡ first numberOf (byteOf (now (self .entry))) (left (now (self .entry))) ⌝ }
         ensures left { λ r. ⌜ left (now (self .exit)) ≡ rest (left (now (self .entry))) ⌝ }
         ensures byte { λ r. ⌜ byteOf (now (self .exit)) ≡ restAt (byteOf (now (self .entry))) (left (now (self .entry))) ⌝ }
@@ -77,7 +85,7 @@ impl<'a> Fields<'a> {
     }
 
     // The next field, which is to be a mode, or the byte to tell.
-    pub fn mode(&mut self) -> Result<Mode, usize>
+    pub(crate) fn mode(&mut self) -> Result<Mode, usize>
         ensures value { λ r. ⌜ r ≡ first modeOf (byteOf (now (self .entry))) (left (now (self .entry))) ⌝ }
         ensures left { λ r. ⌜ left (now (self .exit)) ≡ rest (left (now (self .entry))) ⌝ }
         ensures byte { λ r. ⌜ byteOf (now (self .exit)) ≡ restAt (byteOf (now (self .entry))) (left (now (self .entry))) ⌝ }
@@ -90,7 +98,7 @@ impl<'a> Fields<'a> {
     }
 
     // The next field, which is to be the word for a kind, or the byte to tell.
-    pub fn kind(&mut self) -> Result<KindWord, usize>
+    pub(crate) fn kind(&mut self) -> Result<KindWord, usize>
         ensures value { λ r. ⌜ r ≡ first kindOf (byteOf (now (self .entry))) (left (now (self .entry))) ⌝ }
         ensures left { λ r. ⌜ left (now (self .exit)) ≡ rest (left (now (self .entry))) ⌝ }
         ensures byte { λ r. ⌜ byteOf (now (self .exit)) ≡ restAt (byteOf (now (self .entry))) (left (now (self .entry))) ⌝ }
@@ -103,7 +111,7 @@ impl<'a> Fields<'a> {
     }
 
     // The next field, which is to be a value of a kind, or the byte to tell.
-    pub fn value(&mut self, kind: KindWord) -> Result<Value, usize>
+    pub(crate) fn value(&mut self, kind: KindWord) -> Result<Value, usize>
         ensures value { λ r. ⌜ r ≡ first (valueOf kind) (byteOf (now (self .entry))) (left (now (self .entry))) ⌝ }
         ensures left { λ r. ⌜ left (now (self .exit)) ≡ rest (left (now (self .entry))) ⌝ }
         ensures byte { λ r. ⌜ byteOf (now (self .exit)) ≡ restAt (byteOf (now (self .entry))) (left (now (self .entry))) ⌝ }
@@ -116,7 +124,7 @@ impl<'a> Fields<'a> {
     }
 
     // The next field, which is to be a measure or a figure, or the byte to tell.
-    pub fn measure(&mut self) -> Result<i32, usize>
+    pub(crate) fn measure(&mut self) -> Result<i32, usize>
         ensures value { λ r. ⌜ r ≡ first measureOf (byteOf (now (self .entry))) (left (now (self .entry))) ⌝ }
         ensures left { λ r. ⌜ left (now (self .exit)) ≡ rest (left (now (self .entry))) ⌝ }
         ensures byte { λ r. ⌜ byteOf (now (self .exit)) ≡ restAt (byteOf (now (self .entry))) (left (now (self .entry))) ⌝ }
@@ -129,7 +137,7 @@ impl<'a> Fields<'a> {
     }
 
     // The next field, which is to be an entry, or the byte to tell.
-    pub fn entry(&mut self) -> Result<Entry<Cell>, usize>
+    pub(crate) fn entry(&mut self) -> Result<Entry<Cell>, usize>
         ensures value { λ r. ⌜ r ≡ first entryOf (byteOf (now (self .entry))) (left (now (self .entry))) ⌝ }
         ensures left { λ r. ⌜ left (now (self .exit)) ≡ rest (left (now (self .entry))) ⌝ }
         ensures byte { λ r. ⌜ byteOf (now (self .exit)) ≡ restAt (byteOf (now (self .entry))) (left (now (self .entry))) ⌝ }
@@ -152,7 +160,7 @@ impl<'a> Fields<'a> {
     }
 
     // The next field, which is to be an entry, with its place, or the byte to tell.
-    pub fn placed(&mut self) -> Result<Placed, usize>
+    pub(crate) fn placed(&mut self) -> Result<Placed, usize>
         ensures value { λ r. ⌜ r ≡ placedOf (byteOf (now (self .entry))) (left (now (self .entry))) ⌝ }
         ensures left { λ r. ⌜ left (now (self .exit)) ≡ rest (left (now (self .entry))) ⌝ }
         ensures byte { λ r. ⌜ byteOf (now (self .exit)) ≡ restAt (byteOf (now (self .entry))) (left (now (self .entry))) ⌝ }

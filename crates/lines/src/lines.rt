@@ -54,7 +54,7 @@ pub fn entries(fields: &mut Fields<'_>, count: usize, out: &mut [Placed; 16]) ->
     ensures value { λ r. ⌜ r ≡ formed (entriesOf count (byte (now (fields .entry))) (left (now (fields .entry)))) ⌝ }
     ensures kept { λ r. ⌜ Kept (entriesOf count (byte (now (fields .entry))) (left (now (fields .entry)))) (now (out .exit)) ⌝ }
 {
-    if count > 16 {
+    if count > out.len() {
         return Err(1);
     }
     for i in 0..count {
@@ -81,7 +81,7 @@ pub fn column_line(
 pub fn default_line(fields: &mut Fields<'_>) -> Result<Figure, usize>
     ensures { λ r. ⌜ r ≡ defaultOf (byte (now (fields .entry))) (left (now (fields .entry))) ⌝ }
 {
-    let result = fields.result()?;
+    let figure = fields.result()?;
     fields.done()?;
-    Ok(result)
+    Ok(figure)
 }

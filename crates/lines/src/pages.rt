@@ -2,13 +2,22 @@
 ghost use mathlib.Core.Path.{_≡_};
 ghost use mathlib.Core.List.{[], _∷_};
 ghost use Prim.Native.Nat.{_+_, _≤_};
-ghost use lib.ListN.{length};
+ghost use lib.ListN.{length, drop};
 ghost use Rattle.std.specs.Options.{Cases as BySome};
+ghost use Rattle.text.specs.Fields.{upTo};
 ghost use Rattle.text.specs.Pages.{lined, closed};
 ghost use Rattle.lines.specs.Left.{ahead};
 use crate::reader::Reader;
 use lexer::parts::until;
 use lexer::words::is;
+
+// The place of the byte 10 that ends the line that starts at `from`, or the text's end.
+fn line_end(page: &[u8], from: usize) -> usize
+    requires { ⌜ from ≤ length (now page) ⌝ }
+    ensures { λ r. ⌜ r ≡ from + upTo 10 (drop from (now (page .entry))) ⌝ ∗ ⌜ r ≤ length (now (page .entry)) ⌝ }
+{
+    until(page, from, b'\n')
+}
 
 impl<'a> Reader<'a> {
     // The lines of a text, the first of which has number 1.
@@ -39,7 +48,7 @@ impl<'a> Reader<'a> {
             return None;
         }
         let from = self.at;
-        let to = until(self.page, from, b'\n');
+        let to = line_end(self.page, from);
         self.at = to + 1;
         self.line += 1;
         Some(&self.page[from..to])

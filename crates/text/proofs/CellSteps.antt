@@ -16,41 +16,36 @@ use Rattle.std.specs.declared.option.Option.{Option}
 use Rattle.std.specs.declared.option.Option.the-variants.{Some, None}
 use Rattle.text.specs.Fields.{upTo, parted, partsFrom}
 use Rattle.text.specs.Numbers.{number}
-use Rattle.text.specs.Cells.{chain, dots, members, listed, names, band, unmarked, cell}
+use Rattle.text.specs.Cells.{chain, dots, member, members, listed, names, band, unmarked, cell}
 use Rattle.text.proofs.Parts.{parts-more, parts-none}
 
 pub dots-past : (bs : List ℕ) → length bs ≤ upTo 46 bs + 1 → None ≡ dots bs
 dots-past bs h = sym (ap (λ b. cond (eqb b 46) (Some (upTo 46 bs)) None) (getD-past bs (upTo 46 bs + 1) 0 h))
 
--- the names before the place `at` are read: they are `set`, and all below `from`
+-- the names before the place `at` are read: they are `bits`, and all below `from`
 abbrev pub Listed : List ℕ → ℕ → ℕ → ℕ → Type 0
-Listed bs set from at = (members from set (partsFrom 44 bs at) ≡ listed bs) × (set < 2 ^ from) × (from ≤ 32)
+Listed bs bits from at = (members from bits (partsFrom 44 bs at) ≡ listed bs) × (bits < 2 ^ from) × (from ≤ 32)
 
-module _ (bs : List ℕ) (set from at to : ℕ) (so : Listed bs set from at) (h : at ≤ length bs) (e : to ≡ at + upTo 44 (drop at bs)) where
+module _ (bs : List ℕ) (bits from at to : ℕ) (so : Listed bs bits from at) (h : at ≤ length bs) (e : to ≡ at + upTo 44 (drop at bs)) where
   abbrev part : List ℕ
   part = take (to - at) (drop at bs)
 
-  next-is : chain (number part) (λ n. cond (leb from n && ltb n 32) (members (n + 1) (set + 2 ^ n) (partsFrom 44 bs (to + 1))) None) ≡ listed bs
-  next-is = sym (ap (members from set) (parts-more 44 bs at to h e)) ∙ so .0
+  next-is : chain (member from part) (λ n. members (n + 1) (bits + 2 ^ n) (partsFrom 44 bs (to + 1))) ≡ listed bs
+  next-is = sym (ap (members from bits) (parts-more 44 bs at to h e)) ∙ so .0
 
-  pub listed-more : (n : ℕ) → Some n ≡ number part → from ≤ n → n ≤ 31 → Listed bs (set + 2 ^ n) (n + 1) (to + 1)
+  -- one more name
+  pub listed-more : (n : ℕ) → Some n ≡ member from part → from ≤ n → n < 32 → Listed bs (bits + 2 ^ n) (n + 1) (to + 1)
   listed-more n r low high =
-      let k : set < 2 ^ n = let p : 2 ^ from ≤ 2 ^ n = pow-le-pow-right {n = 2} (omega arith) low in omega (arith, so .1) in
-      let d : 2 ^ (n + 1) ≡ 2 ^ n * 2 = rw add-one (pow-suc 2 n) in (
-        sym (cond-true _ _ _ (and-from _ _ (le-leb from n low) (lt-ltb n 32 (omega arith)))) ∙ ap (λ o. chain o (λ m. cond (leb from m && ltb m 32) (members (m + 1) (set + 2 ^ m) (partsFrom 44 bs (to + 1))) None)) r ∙ next-is,
-        omega arith,
-        omega arith,
-      )
+      let k : bits < 2 ^ n = let p : 2 ^ from ≤ 2 ^ n = pow-le-pow-right {n = 2} (omega arith) low in omega (arith, so .1) in
+      let d : 2 ^ (n + 1) ≡ 2 ^ n * 2 = rw add-one (pow-suc 2 n) in
+      (ap (λ o. chain o (λ m. members (m + 1) (bits + 2 ^ m) (partsFrom 44 bs (to + 1)))) r ∙ next-is, omega arith, omega arith)
 
-  pub listed-none : None ≡ number part → None ≡ listed bs
-  listed-none r = ap (λ o. chain o (λ m. cond (leb from m && ltb m 32) (members (m + 1) (set + 2 ^ m) (partsFrom 44 bs (to + 1))) None)) r ∙ next-is
+  -- a part that is no name, or none that may stand here
+  pub listed-none : None ≡ member from part → None ≡ listed bs
+  listed-none r = ap (λ o. chain o (λ m. members (m + 1) (bits + 2 ^ m) (partsFrom 44 bs (to + 1)))) r ∙ next-is
 
-  pub listed-low : (n : ℕ) → Some n ≡ number part → (n < from) ⊎ ((from ≤ n) × (31 < n)) → None ≡ listed bs
-  listed-low n r low =
-      sym (cond-false _ _ _ (⊎-elim (λ (l : n < from). and-left _ _ (lt-leb from n l)) (λ (l : (from ≤ n) × (31 < n)). and-right (leb from n) _ (le-ltb n 32 (omega (arith, l .1)))) low)) ∙ ap (λ o. chain o (λ m. cond (leb from m && ltb m 32) (members (m + 1) (set + 2 ^ m) (partsFrom 44 bs (to + 1))) None)) r ∙ next-is
-
-pub listed-all : (bs : List ℕ) (set from at : ℕ) → Listed bs set from at → length bs < at → Some set ≡ listed bs
-listed-all bs set from at so h = sym (ap (members from set) (parts-none 44 bs at h)) ∙ so .0
+pub listed-all : (bs : List ℕ) (bits from at : ℕ) → Listed bs bits from at → length bs < at → Some bits ≡ listed bs
+listed-all bs bits from at so h = sym (ap (members from bits) (parts-none 44 bs at h)) ∙ so .0
 
 pub listed-start : (bs : List ℕ) → (length bs ≡ 0 → ⊥) → Listed bs 0 0 0
 listed-start bs h = (ap (members 0 0) (cond-true _ _ _ (le-leb 0 (length bs) (omega arith))) ∙ sym (cond-false _ _ _ (ne-eqb (length bs) 0 h)), omega arith, omega arith)

@@ -47,10 +47,14 @@ band inside bs = chain (dots bs) (λ dot. both (measure (between 0 dot bs)) (mea
 abbrev pub window : List ℕ → Option Cell
 window bs = cond (eqb (length bs) 11 && eqb (getD bs 5 0) 45) (both (time (between 0 5 bs)) (time (between 6 11 bs)) windowCell) None
 
+-- a name of a set, 0 to 31, which does not stand before `from`
+abbrev pub member : ℕ → List ℕ → Option ℕ
+member from p = chain (number p) (λ n. cond (leb from n && ltb n 32) (Some n) None)
+
 -- the set of names that ascending parts are, with a set of names below `from`: bit n is name n
 abbrev pub members : ℕ → ℕ → List (List ℕ) → Option ℕ
 members from bits [] = Some bits
-members from bits (p ∷ ps) = chain (number p) (λ n. cond (leb from n && ltb n 32) (members (n + 1) (bits + 2 ^ n) ps) None)
+members from bits (p ∷ ps) = chain (member from p) (λ n. members (n + 1) (bits + 2 ^ n) ps)
 
 -- names parted by commas; no text is the empty set
 abbrev pub listed : List ℕ → Option ℕ

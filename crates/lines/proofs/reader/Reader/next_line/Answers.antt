@@ -15,7 +15,7 @@ returns-then-self c = record {
 
 pub returns : need.returns
 returns c = record {
-  left = lined-more (c .args .self .now .page .now) (c .args .self .now .at) (c .until-to .result) (c .if-self .left) (c .until-to .ensures .0);
+  left = lined-more (c .args .self .now .page .now) (c .args .self .now .at) (c .line-end-to .result) (c .if-self .left) (c .line-end-to .ensures .0);
   line = refl;
   short = simp (length-take, length-drop) (omega arith);
   at = omega arith;
