@@ -49,6 +49,10 @@ mod tests {
         Ok(())
     }
 
+    fn band(lo: i32, hi: i32, inside: bool) -> Band {
+        Band { lo, hi, inside }
+    }
+
     #[test]
     fn measures() -> Result<(), Fail> {
         // two numbers: is the one not after the other, and are they a range
@@ -73,30 +77,8 @@ mod tests {
             (0, 1_000_001, false),
             (i32::MIN, i32::MAX, false),
         ] {
-            check_eq(
-                Measure::fits(
-                    Band {
-                        lo,
-                        hi,
-                        inside: true,
-                    },
-                    -5,
-                    5,
-                ),
-                fits,
-            )?;
-            check_eq(
-                Measure::fits(
-                    Band {
-                        lo,
-                        hi,
-                        inside: false,
-                    },
-                    -5,
-                    5,
-                ),
-                fits,
-            )?;
+            check_eq(Measure::fits(band(lo, hi, true), -5, 5), fits)?;
+            check_eq(Measure::fits(band(lo, hi, false), -5, 5), fits)?;
         }
         // a band and a number: does it lie inside, and the next stop after it
         for (lo, hi, at, inside, stop) in [
@@ -111,50 +93,10 @@ mod tests {
             (-1_000_000, 7, -1_000_000, true, Some(8)),
             (7, i32::MAX, 7, true, None),
         ] {
-            check_eq(
-                Measure::holds(
-                    Band {
-                        lo,
-                        hi,
-                        inside: true,
-                    },
-                    at,
-                ),
-                inside,
-            )?;
-            check_eq(
-                Measure::holds(
-                    Band {
-                        lo,
-                        hi,
-                        inside: false,
-                    },
-                    at,
-                ),
-                !inside,
-            )?;
-            check_eq(
-                Measure::next_stop(
-                    Band {
-                        lo,
-                        hi,
-                        inside: true,
-                    },
-                    at,
-                ),
-                stop,
-            )?;
-            check_eq(
-                Measure::next_stop(
-                    Band {
-                        lo,
-                        hi,
-                        inside: false,
-                    },
-                    at,
-                ),
-                stop,
-            )?;
+            check_eq(Measure::holds(band(lo, hi, true), at), inside)?;
+            check_eq(Measure::holds(band(lo, hi, false), at), !inside)?;
+            check_eq(Measure::next_stop(band(lo, hi, true), at), stop)?;
+            check_eq(Measure::next_stop(band(lo, hi, false), at), stop)?;
         }
         Ok(())
     }
@@ -284,11 +226,7 @@ mod tests {
 
     #[test]
     fn joined_cells() -> Result<(), Fail> {
-        let band = band_cell(Band {
-            lo: 10,
-            hi: 20,
-            inside: true,
-        });
+        let ten_to_twenty = band_cell(band(10, 20, true));
         let set = names_cell(NameSet { bits: 0x30 });
         let window = window_cell(Window {
             start: 360,
@@ -297,9 +235,9 @@ mod tests {
         let empty = names_cell(NameSet { bits: 0 });
         // a cell and a range: is the cell lawful for it
         for (cell, least, greatest, fits) in [
-            (band, measure_value(0), measure_value(9), true),
-            (band, name_value(0), name_value(9), false),
-            (band, measure_value(0), name_value(9), false),
+            (ten_to_twenty, measure_value(0), measure_value(9), true),
+            (ten_to_twenty, name_value(0), name_value(9), false),
+            (ten_to_twenty, measure_value(0), name_value(9), false),
             (set, name_value(0), name_value(9), true),
             (set, minute_value(0), minute_value(9), false),
             (set, name_value(0), minute_value(9), false),
@@ -311,11 +249,21 @@ mod tests {
         }
         // a cell and a value: does it hold, and the next stop after the value
         for (cell, at, holds, stop) in [
-            (band, measure_value(0), false, Some(measure_value(10))),
-            (band, measure_value(10), true, Some(measure_value(21))),
-            (band, measure_value(21), false, None),
-            (band, name_value(10), false, None),
-            (band, minute_value(10), false, None),
+            (
+                ten_to_twenty,
+                measure_value(0),
+                false,
+                Some(measure_value(10)),
+            ),
+            (
+                ten_to_twenty,
+                measure_value(10),
+                true,
+                Some(measure_value(21)),
+            ),
+            (ten_to_twenty, measure_value(21), false, None),
+            (ten_to_twenty, name_value(10), false, None),
+            (ten_to_twenty, minute_value(10), false, None),
             (set, name_value(4), true, Some(name_value(6))),
             (set, name_value(6), false, None),
             (set, measure_value(4), false, None),
