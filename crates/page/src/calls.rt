@@ -2,10 +2,12 @@
 // then its calls follow, entries left to right.
 use crate::fault::LineFault;
 use crate::fault::PageFault;
+use clock::ClockKind;
 use faults::SheetFault;
 use house::House;
 use items::Entry;
 use items::Scope;
+use joined::JoinedKind;
 use lines::cursor::Fields;
 use lines::lines::column_line;
 use lines::lines::default_line;
@@ -13,15 +15,13 @@ use lines::lines::entries;
 use lines::lines::quantity_line;
 use lines::lines::row_line;
 use lists::lent::Lists;
+use measure::MeasureKind;
+use names::NamesKind;
 use results::figure::Figure;
+use results::figure::FigureResult;
 use sheet::states::Draft;
 use text::types::Placed;
 use text::types::Word;
-use clock::ClockKind;
-use joined::JoinedKind;
-use measure::MeasureKind;
-use names::NamesKind;
-use results::figure::FigureResult;
 
 // The lists of a page's sheet.
 pub type PageLists<'a> = Lists<'a, House, Figure>;
@@ -148,7 +148,13 @@ fn never(
         Ok(()) => {}
     }
     match draft.add_never(lists) {
-        Ok(()) => set_entries(counts.rows, counts.nevers.saturating_add(16), &said, draft, lists),
+        Ok(()) => set_entries(
+            counts.rows,
+            counts.nevers.saturating_add(16),
+            &said,
+            draft,
+            lists,
+        ),
         Err(fault) => Err(call(fault, 1)),
     }
 }

@@ -6,19 +6,19 @@ use crate::calls::make;
 use crate::fault::LineFault;
 use crate::fault::PageFault;
 use crate::fault::PageRefusal;
+use clock::ClockKind;
+use joined::JoinedKind;
 use kinds::Kind;
 use lexer::words::allowed;
 use lexer::words::first_word;
 use lines::cursor::Fields;
 use lines::pages::is_closed;
 use lines::reader::Reader;
-use sheet::states::Draft;
-use text::types::Section;
-use clock::ClockKind;
-use joined::JoinedKind;
 use measure::MeasureKind;
 use names::NamesKind;
 use results::figure::FigureResult;
+use sheet::states::Draft;
+use text::types::Section;
 
 // The most bytes that a page may have.
 pub const MOST_BYTES: usize = 65_536;

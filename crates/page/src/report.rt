@@ -2,6 +2,7 @@
 use crate::calls::PageLists;
 use crate::fault::PageRefusal;
 use crate::reading::read;
+use clock::ClockKind;
 use faults::SheetFault;
 use house::Value;
 use house::measure_value;
@@ -13,19 +14,18 @@ use items::Row;
 use items::Scope;
 use items::Side;
 use joined::Either;
+use joined::JoinedKind;
 use lists::lent::Encounter;
 use lists::lent::Lists;
 use lists::lent::Showing;
 use lists::places::nth;
+use measure::MeasureKind;
+use names::NamesKind;
 use results::figure::Figure;
+use results::figure::FigureResult;
 use sheet::states::Draft;
 use std::alloc::AllocError;
 use std::alloc::Global;
-use clock::ClockKind;
-use joined::JoinedKind;
-use measure::MeasureKind;
-use names::NamesKind;
-use results::figure::FigureResult;
 
 // What is printed, and whether the sheet is issued.
 #[derive(Drop)]
@@ -89,7 +89,10 @@ fn show(
 fn is_shown(fault: SheetFault) -> bool {
     match fault {
         SheetFault::Gap => true,
-        SheetFault::Clash { lowest: _, other: _ } => true,
+        SheetFault::Clash {
+            lowest: _,
+            other: _,
+        } => true,
         SheetFault::Asymmetry => true,
         _ => false,
     }
