@@ -1,0 +1,165 @@
+-- What a sheet says, apart from where its lists keep it, and what an encounter is. Assumes nothing.
+use mathlib.Core.Path.{_≡_}
+use mathlib.Core.Bool.{Bool, true, false, _&&_}
+use mathlib.Core.List.{List, [], _∷_, _++_, map}
+use Prim.Native.Nat.{ℕ, suc, _≤_}
+use lib.Dec.{leb, eqb}
+use lib.ListN.{length, set}
+use Rattle.std.specs.Finite.{nth}
+use Rattle.std.specs.shelf.Lists.{All}
+use Rattle.std.specs.declared.option.Option.{Option}
+use Rattle.std.specs.declared.option.Option.the-variants.{Some, None}
+use Rattle.kinds.specs.Meaning.{Meaning}
+use Rattle.items.specs.declared.Scope.{Scope}
+use Rattle.items.specs.declared.Scope.the-variants.{Flight, Pair as OfBoth}
+use Rattle.items.specs.declared.Side.{Side}
+use Rattle.items.specs.declared.Side.the-variants.{OfA, OfB, OfPair}
+use Rattle.items.specs.declared.Mode.{Mode}
+use Rattle.items.specs.declared.Mode.the-variants.{A, B, Both, Either, Pair}
+use Rattle.items.specs.declared.Quantity.{Quantity}
+use Rattle.items.specs.declared.Row.{Row}
+use Rattle.items.specs.declared.Entry.{Entry}
+use Rattle.items.specs.declared.Entry.the-variants.{Any, Cell}
+use Rattle.tables.specs.Words.{UpTo, upTo}
+use Rattle.results.specs.Results.{Results}
+
+-- a column that bears a result: an entry a row
+pub record Column (C R : Type 0) : Type 0 where
+  pub entries : List (Entry C)
+  pub result : R
+
+pub record Contents (V C R : Type 0) : Type 0 where
+  pub quantities : List (Quantity V)
+  pub rows : List Row
+  pub columns : List (Column C R)
+  pub nevers : List (List (Entry C))
+  pub default : Option R
+
+-- the values of two flights: those of A, of B and of the pair, by quantity
+pub record Encounter (V : Type 0) : Type 0 where
+  pub a : List V
+  pub b : List V
+  pub pair : List V
+
+-- one value that an encounter needs
+pub record Place (V : Type 0) : Type 0 where
+  pub side : Side
+  pub number : ℕ
+  pub quantity : Quantity V
+
+abbrev pub sides : Scope → List Side
+sides Flight = OfA ∷ OfB ∷ []
+sides OfBoth = OfPair ∷ []
+
+module _ {V : Type 0} where
+  -- the values that are needed, the lowest quantity first, A before B
+  abbrev pub placesFrom : ℕ → List (Quantity V) → List (Place V)
+  placesFrom i [] = []
+  placesFrom i (q ∷ qs) = map (λ s. record { side = s; number = i; quantity = q }) (sides (q .scope)) ++ placesFrom (suc i) qs
+
+  abbrev pub places : {C R : Type 0} → Contents V C R → List (Place V)
+  places c = placesFrom 0 (c .quantities)
+
+  abbrev pub valueAt : Encounter V → Side → ℕ → Option V
+  valueAt e OfA i = nth (e .a) i
+  valueAt e OfB i = nth (e .b) i
+  valueAt e OfPair i = nth (e .pair) i
+
+  abbrev pub put : Side → ℕ → V → Encounter V → Encounter V
+  put OfA i v e = record { a = set (e .a) i v; b = e .b; pair = e .pair }
+  put OfB i v e = record { a = e .a; b = set (e .b) i v; pair = e .pair }
+  put OfPair i v e = record { a = e .a; b = e .b; pair = set (e .pair) i v }
+
+  abbrev pub valueOf : Encounter V → Place V → Option V
+  valueOf e p = valueAt e (p .side) (p .number)
+
+  abbrev pub putAt : Place V → V → Encounter V → Encounter V
+  putAt p v e = put (p .side) (p .number) v e
+
+  -- are the three lists of right length
+  abbrev pub whole : Encounter V → Bool
+  whole e = eqb (length (e .a)) 16 && (eqb (length (e .b)) 16 && eqb (length (e .pair)) 16)
+
+  -- the same encounter with the flights exchanged
+  abbrev pub exchange : {C R : Type 0} → Contents V C R → Encounter V → Encounter V
+  exchange c e = record { a = e .b; b = e .a; pair = e .pair }
+
+module _ {V C : Type 0} (m : Meaning V C) where
+  abbrev pub within : Quantity V → Option V → Bool
+  within q None = false
+  within q (Some v) = leb (m .rank (q .least)) (m .rank v) && leb (m .rank v) (m .rank (q .greatest))
+
+  abbrev pub placeInRange : Encounter V → Place V → Type 0
+  placeInRange e p = within (p .quantity) (valueOf e p) ≡ true
+
+  abbrev pub InRange : {R : Type 0} → Contents V C R → Encounter V → Type 0
+  InRange c e = All (placeInRange e) (places c)
+
+  -- What the draft calls ask of a quantity, a row and an entry.
+  abbrev pub rangeLawful : Quantity V → Bool
+  rangeLawful q = m .range (q .least) (q .greatest)
+
+  abbrev pub modeFits : Mode → Scope → Bool
+  modeFits A Flight = true
+  modeFits A OfBoth = false
+  modeFits B Flight = true
+  modeFits B OfBoth = false
+  modeFits Both Flight = true
+  modeFits Both OfBoth = false
+  modeFits Either Flight = true
+  modeFits Either OfBoth = false
+  modeFits Pair Flight = false
+  modeFits Pair OfBoth = true
+
+  -- the row's quantity exists and the mode fits it
+  abbrev pub modeLawful : Mode → Option (Quantity V) → Bool
+  modeLawful k None = false
+  modeLawful k (Some q) = modeFits k (q .scope)
+
+  abbrev pub cellLawful : C → Option (Quantity V) → Bool
+  cellLawful x None = false
+  cellLawful x (Some q) = m .fits x (q .least) (q .greatest)
+
+  abbrev pub rowLawful : List (Quantity V) → Row → Bool
+  rowLawful qs w = modeLawful (w .mode) (nth qs (w .quantity))
+
+  abbrev pub entryLawful : List (Quantity V) → Row → Entry C → Bool
+  entryLawful qs w Any = true
+  entryLawful qs w (Cell x) = cellLawful x (nth qs (w .quantity))
+
+  abbrev pub entriesLawful : List (Quantity V) → List Row → List (Entry C) → Bool
+  entriesLawful qs [] [] = true
+  entriesLawful qs [] (x ∷ xs) = false
+  entriesLawful qs (w ∷ ws) [] = false
+  entriesLawful qs (w ∷ ws) (x ∷ xs) = entryLawful qs w x && entriesLawful qs ws xs
+
+  -- one entry a row, each lawful for the row's range
+  abbrev pub EntriesLawful : List (Quantity V) → List Row → List (Entry C) → Type 0
+  EntriesLawful qs [] [] = Unit {0}
+  EntriesLawful qs [] (x ∷ xs) = ⊥
+  EntriesLawful qs (w ∷ ws) [] = ⊥
+  EntriesLawful qs (w ∷ ws) (x ∷ xs) = (entryLawful qs w x ≡ true) × EntriesLawful qs ws xs
+
+abbrev pub DefaultLawful : {R : Type 0} → Results R → Option R → Type 0
+DefaultLawful r None = Unit {0}
+DefaultLawful r (Some d) = r .lawful d ≡ true
+
+abbrev pub defaultLawful : {R : Type 0} → Results R → Option R → Bool
+defaultLawful r None = true
+defaultLawful r (Some d) = r .lawful d
+
+-- What the draft calls would accept.
+pub record Acceptable {V C R : Type 0} (m : Meaning V C) (r : Results R) (c : Contents V C R) : Type 0 where
+  pub quantities : UpTo 16 (λ q. rangeLawful m q ≡ true) (c .quantities)
+  pub rows : UpTo 16 (λ w. rowLawful m (c .quantities) w ≡ true) (c .rows)
+  pub columns : UpTo 16 (λ k. EntriesLawful m (c .quantities) (c .rows) (k .entries) × (r .lawful (k .result) ≡ true)) (c .columns)
+  pub nevers : UpTo 8 (EntriesLawful m (c .quantities) (c .rows)) (c .nevers)
+  pub default : DefaultLawful r (c .default)
+
+-- The same as a test.
+abbrev pub acceptable : {V C R : Type 0} → Meaning V C → Results R → Contents V C R → Bool
+acceptable m r c = upTo 16 (rangeLawful m) (c .quantities)
+    && (upTo 16 (rowLawful m (c .quantities)) (c .rows)
+    && (upTo 16 (λ k. entriesLawful m (c .quantities) (c .rows) (k .entries) && r .lawful (k .result)) (c .columns)
+    && (upTo 8 (entriesLawful m (c .quantities) (c .rows)) (c .nevers)
+    && defaultLawful r (c .default))))

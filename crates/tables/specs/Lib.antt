@@ -1,0 +1,9 @@
+pub mod Words
+pub mod Contents
+pub mod Outcomes
+pub mod Starts
+pub mod Issues
+pub mod Lookups
+pub mod Calls
+pub mod Storage
+pub mod Promises
