@@ -21,13 +21,15 @@ use Rattle.items.specs.declared.Side.{Side}
 use Rattle.items.specs.declared.Quantity.{Quantity}
 use Rattle.tables.specs.Words.{Any, each}
 use Rattle.results.specs.Results.{Results}
-use Rattle.tables.specs.Contents.{Contents, Encounter, Place, Acceptable, InRange, sides, places, placesFrom, valueAt, put, whole, exchange, within, placeInRange, valueOf, putAt}
+use Rattle.tables.specs.Contents.{Contents, Encounter, Place, InRange, sides, places, placesFrom, valueAt, put, whole, exchange, within, placeInRange, valueOf, putAt}
+use Rattle.tables.specs.Acceptance.{Acceptable}
 use Rattle.tables.specs.Outcomes.{holdsFor}
 use Rattle.tables.specs.Starts.{cellsOf, startsFrom, startsAt, choices, fromStarts}
-use Rattle.tables.specs.Promises.{Bridge}
+use Rattle.tables.specs.Bridges.{Bridge}
 use Rattle.tables.proofs.Lists.{all-nth, nth-some, any-map, any-each, any-weaker, any-both, all-given, all-each}
 use Rattle.tables.proofs.Covering.{Same, covered, In, starts-within}
 use Rattle.tables.proofs.Placing.{place, placed, sides-at, Apart, Separate, separate, put-here, put-whole}
+use Rattle.tables.proofs.Keeping.{apart-untouched, choices-keep}
 use Rattle.tables.proofs.Reading.{Alike, cells-fit, outcome-same}
 
 module _ {V C R : Type 0} (m : Meaning V C) (law : Lawful m) (r : Results R) (c : Contents V C R) (ok : Acceptable m r c) where
@@ -49,22 +51,12 @@ module _ {V C R : Type 0} (m : Meaning V C) (law : Lawful m) (r : Results R) (c 
       covered m law (q .least) (q .greatest) (all-nth (λ q. m .range (q .least) (q .greatest) ≡ true) (c .quantities) (p .number) q (ok .quantities .1) n) w (leb-true (m .rank w) (m .rank (q .greatest)) (b .1))
       (cellsOf c (p .number)) (cells-fit m r c ok (p .number) q n) (suc (m .rank (q .greatest) - m .rank (q .least))) (q .least) (omega arith) (omega arith) (leb-true (m .rank (q .least)) (m .rank w) (b .0))
 
-  -- later choices leave the value at p
-  pub chosen-keep : (p : Place V) (ps : List (Place V)) → All (Apart p) ps → (lent : Encounter V) → All (λ s. valueOf s p ≡ valueOf lent p) (choices m c ps lent)
-  chosen-keep p [] a lent = (refl, tt)
-  chosen-keep p (t ∷ ps) a lent =
-      all-each (λ s. valueOf s p ≡ valueOf lent p) (λ v. choices m c ps (putAt t v lent)) (startsAt m c t)
-      (all-given (λ v. All (λ s. valueOf s p ≡ valueOf lent p) (choices m c ps (putAt t v lent)))
-      (λ v. let e : Encounter V = putAt t v lent in
-      all-weaker (λ s. valueOf s p ≡ valueOf e p) (λ s. valueOf s p ≡ valueOf lent p) (λ s k. k ∙ a .0 .0 v lent) (choices m c ps e) (chosen-keep p ps (a .1) e))
-      (startsAt m c t))
-
-  -- so it is the start that was put there
+  -- later choices leave the start that was put at p
   pub chosen-at : (p : Place V) (ps : List (Place V)) → All (Apart p) ps → Placed p → (lent : Encounter V) → whole lent ≡ true → (v : V) → All (λ s. valueOf s p ≡ Some v) (choices m c ps (putAt p v lent))
   chosen-at p ps a n lent w v =
       let e : Encounter V = putAt p v lent in
       let few : p .number < 16 = omega (arith, nth-some (c .quantities) (p .number) (p .quantity) n, ok .quantities .0) in
-      all-weaker (λ s. valueOf s p ≡ valueOf e p) (λ s. valueOf s p ≡ Some v) (λ s k. k ∙ put-here (p .side) (p .number) v lent w few) (choices m c ps e) (chosen-keep p ps a e)
+      all-weaker (λ s. valueOf s p ≡ valueOf e p) (λ s. valueOf s p ≡ Some v) (λ s k. k ∙ put-here (p .side) (p .number) v lent w few) (choices m c ps e) (choices-keep m c (p .side) (p .number) ps (apart-untouched p ps a) e)
 
   chosen : (ps : List (Place V)) → Separate ps → All Placed ps → (e lent : Encounter V) → All (placeInRange m e) ps → whole lent ≡ true → Any (λ s. All (ReadAt e s) ps) (choices m c ps lent)
   chosen [] d n e lent h w = inl tt

@@ -17,17 +17,16 @@ use Rattle.tables.specs.Words.{Any, Cut}
 use Rattle.results.specs.Results.{Results}
 use Rattle.tables.specs.Contents.{Contents, Column, Encounter}
 use Rattle.tables.specs.Outcomes.{Outcome, barred, gap, clash, answer, met, someMet, columnsMet, unequal, clashOrAnswer, judged, outcome}
-use Rattle.tables.specs.Promises.{Met, Unmet, NoNever, Agrees, Disagrees, Fits}
-
-abbrev longer : {X : Type 0} (P Q : X → Type 0) (x : X) (xs : List X) → P x → Cut P Q xs → Cut P Q (x ∷ xs)
-longer P Q x xs p k = record { before = x ∷ k .before; here = k .here; rest = k .rest; is = ap (λ ys. x ∷ ys) (k .is); all = (p, k .all); found = k .found }
+use Rattle.tables.specs.Faultless.{Meets}
+use Rattle.tables.specs.LookedUp.{Unmet, NoNever, Agrees, Disagrees, Fits}
+use Rattle.tables.proofs.Lists.{longer}
 
 module _ {V C R : Type 0} (m : Meaning V C) (r : Results R) (c : Contents V C R) (e : Encounter V) where
   abbrev found : ℕ → List (Column C R) → List (ℕ × R)
   found n xs = columnsMet m n (c .rows) xs e
 
   abbrev Lowest : ℕ → List (Column C R) → Type 0
-  Lowest n xs = (k : Cut (Unmet m r c e) (Met m r c e) xs) × ((i : ℕ) × ((i ≡ n + length (k .before)) × (found n xs ≡ (i, k .here .result) ∷ found (suc i) (k .rest))))
+  Lowest n xs = (k : Cut (Unmet m r c e) (Meets m r c e) xs) × ((i : ℕ) × ((i ≡ n + length (k .before)) × (found n xs ≡ (i, k .here .result) ∷ found (suc i) (k .rest))))
 
   lowest : (n : ℕ) (xs : List (Column C R)) → ((found n xs ≡ []) × All (Unmet m r c e) xs) ⊎ Lowest n xs
   lowest n [] = inl (refl, tt)
@@ -36,7 +35,7 @@ module _ {V C R : Type 0} (m : Meaning V C) (r : Results R) (c : Contents V C R)
     | inr f ↦ let skip = cond-false (met m (c .rows) (x .entries) e) ((n, x .result) ∷ found (suc n) xs) (found (suc n) xs) f in
         elim (lowest (suc n) xs) [
           | inl h ↦ inl (skip ∙ h .0, (f, h .1))
-          | inr h ↦ inr (longer (Unmet m r c e) (Met m r c e) x xs f (h .0), (h .1 .0, (omega (arith, h .1 .1 .0), skip ∙ h .1 .1 .1)))
+          | inr h ↦ inr (longer (Unmet m r c e) (Meets m r c e) x xs f (h .0), (h .1 .0, (omega (arith, h .1 .1 .0), skip ∙ h .1 .1 .1)))
         ]
   ]
 

@@ -17,9 +17,10 @@ use Rattle.std.specs.declared.option.Option.the-variants.{Some, None}
 use Rattle.kinds.specs.Meaning.{Meaning, Lawful}
 use Rattle.tables.specs.Words.{each, product}
 use Rattle.results.specs.Results.{Results}
-use Rattle.tables.specs.Contents.{Contents, Encounter, Place, Acceptable, InRange, places, valueAt, put, whole, within, placeInRange, valueOf, putAt}
+use Rattle.tables.specs.Contents.{Contents, Encounter, Place, InRange, places, valueAt, put, whole, within, placeInRange, valueOf, putAt}
+use Rattle.tables.specs.Acceptance.{Acceptable}
 use Rattle.tables.specs.Starts.{cellsOf, startsAt, choices, fromStarts}
-use Rattle.tables.specs.Promises.{MadeOfStarts}
+use Rattle.tables.specs.Bridges.{MadeOfStarts}
 use Rattle.tables.proofs.Lists.{all-nth, nth-some, all-both, all-each}
 use Rattle.tables.proofs.Covering.{In, starts-within}
 use Rattle.tables.proofs.Placing.{Apart, Separate, separate, put-here, put-whole}

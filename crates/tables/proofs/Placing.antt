@@ -52,16 +52,17 @@ module _ {V : Type 0} where
   Separate [] = Unit {0}
   Separate (p ∷ ps) = All (Apart p) ps × Separate ps
 
-  put-other : (s t : Side) (i j : ℕ) (v : V) (e : Encounter V) → (i ≡ j → ⊥) → valueAt (put s i v e) t j ≡ valueAt e t j
-  put-other OfA OfA i j v e h = nth-set-other (e .a) i j v h
+  -- a value put elsewhere leaves that of side t at j
+  pub put-other : (s t : Side) (i j : ℕ) (v : V) (e : Encounter V) → ((s ≡ t) × (i ≡ j) → ⊥) → valueAt (put s i v e) t j ≡ valueAt e t j
+  put-other OfA OfA i j v e h = nth-set-other (e .a) i j v (λ q. h (refl, q))
   put-other OfA OfB i j v e h = refl
   put-other OfA OfPair i j v e h = refl
   put-other OfB OfA i j v e h = refl
-  put-other OfB OfB i j v e h = nth-set-other (e .b) i j v h
+  put-other OfB OfB i j v e h = nth-set-other (e .b) i j v (λ q. h (refl, q))
   put-other OfB OfPair i j v e h = refl
   put-other OfPair OfA i j v e h = refl
   put-other OfPair OfB i j v e h = refl
-  put-other OfPair OfPair i j v e h = nth-set-other (e .pair) i j v h
+  put-other OfPair OfPair i j v e h = nth-set-other (e .pair) i j v (λ q. h (refl, q))
 
   put-swap : (s t : Side) (i j : ℕ) (v w : V) (e : Encounter V) → (i ≡ j → ⊥) → put s i v (put t j w e) ≡ put t j w (put s i v e)
   put-swap OfA OfA i j v w e h = ap (λ l. record { a = l; b = e .b; pair = e .pair }) (set-comm (e .a) j i w v (λ n. h (sym n)))
@@ -94,7 +95,7 @@ module _ {V : Type 0} where
   separate k [] = tt
   separate k (q ∷ qs) =
       separate-sides (q .scope) k q (placesFrom (suc k) qs)
-      (λ s. all-weaker (λ p. k ≡ p .number → ⊥) (Apart (place k q s)) (λ p h. ((λ v e. put-other (p .side) s (p .number) k v e (λ n. h (sym n))), λ v w e. put-swap s (p .side) k (p .number) v w e h)) (placesFrom (suc k) qs) (beyond k (suc k) qs (omega arith)))
+      (λ s. all-weaker (λ p. k ≡ p .number → ⊥) (Apart (place k q s)) (λ p h. ((λ v e. put-other (p .side) s (p .number) k v e (λ n. h (sym (n .1)))), λ v w e. put-swap s (p .side) k (p .number) v w e h)) (placesFrom (suc k) qs) (beyond k (suc k) qs (omega arith)))
       (separate (suc k) qs)
 
   pub put-here : (s : Side) (i : ℕ) (v : V) (e : Encounter V) → whole e ≡ true → i < 16 → valueAt (put s i v e) s i ≡ Some v

@@ -23,7 +23,8 @@ use Rattle.items.specs.declared.Entry.{Entry}
 use Rattle.items.specs.declared.Entry.the-variants.{Any, Cell}
 use Rattle.tables.specs.Words.{each}
 use Rattle.results.specs.Results.{Results}
-use Rattle.tables.specs.Contents.{Contents, Column, Encounter, Acceptable, sides, valueAt, exchange, modeFits, modeLawful, cellLawful, rowLawful, EntriesLawful}
+use Rattle.tables.specs.Contents.{Contents, Column, Encounter, sides, valueAt, exchange}
+use Rattle.tables.specs.Acceptance.{Acceptable, modeFits, modeLawful, cellLawful, rowLawful, EntriesLawful}
 use Rattle.tables.specs.Outcomes.{Outcome, barred, holdsFor, test, met, someMet, columnsMet, judged, outcome}
 use Rattle.tables.specs.Starts.{reading, cellsOf}
 use Rattle.tables.proofs.Lists.{all-split, all-each}

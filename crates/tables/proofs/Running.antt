@@ -13,6 +13,7 @@ use Rattle.std.proofs.shelf.Lists.{length-map}
 use Rattle.std.proofs.shelf.Tests.{cond-both, ltb-true, leb-true, false≢true, true≢false}
 use Rattle.std.specs.declared.option.Option.{Option}
 use Rattle.std.specs.declared.option.Option.the-variants.{Some, None}
+use Rattle.faults.specs.declared.SheetFault.{SheetFault}
 use Rattle.kinds.specs.Meaning.{Meaning, Lawful}
 use Rattle.items.specs.declared.Quantity.{Quantity}
 use Rattle.items.specs.declared.Row.{Row}
@@ -20,15 +21,20 @@ use Rattle.items.specs.declared.Entry.{Entry}
 use Rattle.items.specs.declared.Entry.the-variants.{Any, Cell}
 use Rattle.tables.specs.Words.{UpTo, changed}
 use Rattle.results.specs.Results.{Results, Equal}
-use Rattle.tables.specs.Contents.{Contents, Column, Encounter, Acceptable, whole, modeLawful, cellLawful, rowLawful, entryLawful, EntriesLawful}
+use Rattle.tables.specs.Contents.{Contents, Column, Encounter, whole}
+use Rattle.tables.specs.Acceptance.{Acceptable, modeLawful, cellLawful, rowLawful, entryLawful, EntriesLawful}
 use Rattle.tables.specs.Starts.{count, fromStarts}
-use Rattle.tables.specs.Issues.{Issue, shortLists, tooMany, allBarred, shownGap, shownClash, shownUneven, accepted, refused, limit, searched, issue}
+use Rattle.tables.specs.Issues.{Issue, shortLists, tooMany, allBarred, shownGap, shownClash, shownAsymmetry, accepted, refused, limit, searched, issue}
 use Rattle.tables.specs.Calls.{Edit, nameQuantity, addRow, addColumn, addNever, setCell, setDefault, clearDefault, strikeColumn, strikeNever, Call, edit, tryIssue, lookUp, withdraw, Status, draft, issued, Sheet, firstNo, anyOf, withEntries, edited, empty, opened, lawfulAt, asked, unlessRefused, madeBy, after, run, made}
-use Rattle.tables.specs.Promises.{Faultless, Says, EveryRun}
+use Rattle.tables.specs.Storage.{Lists, RightLengths, contentsOf, openedOn, keptAfter, inOrder}
+use Rattle.tables.specs.Faultless.{Faultless}
+use Rattle.tables.specs.Issued.{Says}
+use Rattle.tables.specs.Promises.{EveryRun}
 use Rattle.tables.proofs.Lists.{none-some}
 use Rattle.tables.proofs.Issuing.{issue-says, issued-rightly}
 use Rattle.tables.proofs.Looking.{looked-up-rightly}
 use Rattle.tables.proofs.Storing.{no-refusal, held-rightly}
+use Rattle.tables.proofs.Testing.{in-order}
 
 module _ {X : Type 0} (n : ℕ) (P : X → Type 0) where
   up-to-push : (xs : List X) (x : X) → ltb (length xs) n ≡ true → P x → UpTo n P xs → UpTo n P (xs ++ (x ∷ []))
@@ -154,7 +160,7 @@ module _ {V C R : Type 0} (m : Meaning V C) (r : Results R) where
     default = ok .default;
   }
 
-  unless-acceptable : (k : Edit V C R) (c : Contents V C R) (o : Option ℕ) → firstNo (asked m r k c) ≡ o → Acceptable m r c → Acceptable m r (unlessRefused m r o (edited k c) c)
+  unless-acceptable : (k : Edit V C R) (c : Contents V C R) (o : Option SheetFault) → firstNo (asked m r k c) ≡ o → Acceptable m r c → Acceptable m r (unlessRefused m r o (edited k c) c)
   unless-acceptable k c None e ok = edited-acceptable k c (no-refusal (asked m r k c) e) ok
   unless-acceptable k c (Some n) e ok = ok
 
@@ -170,26 +176,17 @@ module _ {V C R : Type 0} (m : Meaning V C) (r : Results R) where
     abbrev Sound : Sheet V C R → Type 0
     Sound s = Acceptable m r (s .contents) × Passed (s .status) (s .contents)
 
-    not-refused : (c : Contents V C R) (e : Encounter V) → Acceptable m r c → refused (issue m r c e) ≡ false → Passed issued c
-    not-refused c e ok f = (fits (issue m r c e) refl f, right (issue m r c e) (issue-says m law r eq c ok e) f)
-      where
-        right : (i : Issue V) → Says m r c e i → refused i ≡ false → Faultless m r c
-        right shortLists s f = absurd (true≢false f)
-        right tooMany s f = absurd (true≢false f)
-        right allBarred s f = absurd (true≢false f)
-        right (shownGap e) s f = absurd (true≢false f)
-        right (shownClash e i j) s f = absurd (true≢false f)
-        right (shownUneven e) s f = absurd (true≢false f)
-        right (accepted n) s f = s .1
-
-        fits : (i : Issue V) → issue m r c e ≡ i → refused i ≡ false → count m c ≤ limit
-        fits i q f =
-            cond-both (whole e) (cond (leb (count m c) limit) (searched m r c (fromStarts m c e)) tooMany) shortLists (λ o. o ≡ i → count m c ≤ limit)
-            (λ _ t. cond-both (leb (count m c) limit) (searched m r c (fromStarts m c e)) tooMany (λ o. o ≡ i → count m c ≤ limit) (λ l _. leb-true (count m c) limit l) (λ _ t. absurd (true≢false (ap refused t ∙ f))) t)
-            (λ _ t. absurd (true≢false (ap refused t ∙ f))) q
+    passed-by : (c : Contents V C R) (e : Encounter V) (i : Issue V) → Says m r c e i → refused i ≡ false → Passed issued c
+    passed-by c e shortLists s f = absurd (true≢false f)
+    passed-by c e tooMany s f = absurd (true≢false f)
+    passed-by c e allBarred s f = absurd (true≢false f)
+    passed-by c e (shownGap x) s f = absurd (true≢false f)
+    passed-by c e (shownClash x i j) s f = absurd (true≢false f)
+    passed-by c e (shownAsymmetry x) s f = absurd (true≢false f)
+    passed-by c e (accepted n) s f = (s .0 .few, s .2)
 
     issue-sound : (c : Contents V C R) (e : Encounter V) → Acceptable m r c → Passed (cond (refused (issue m r c e)) draft issued) c
-    issue-sound c e ok = cond-both (refused (issue m r c e)) draft issued (λ s. Passed s c) (λ _. tt) (not-refused c e ok)
+    issue-sound c e ok = cond-both (refused (issue m r c e)) draft issued (λ s. Passed s c) (λ _. tt) (passed-by c e (issue m r c e) (issue-says m law r eq c ok e))
 
     sound-after : (k : Call V C R) (s : Status) (c : Contents V C R) → Acceptable m r c → Passed s c → Sound (madeBy m r k s c)
     sound-after (edit k) draft c ok p = (unless-acceptable k c (firstNo (asked m r k c)) refl ok, tt)
@@ -214,6 +211,7 @@ module _ {V C R : Type 0} (m : Meaning V C) (r : Results R) where
         record {
           acceptable = h .0;
           held = held-rightly m r ks;
+          firstQuestion = λ l s. let k = keptAfter m r (openedOn l) ks in let t = held-rightly m r ks l s in in-order m r (k .counts) (k .lists) .1 (t .lengths, subst (Acceptable m r) (sym (t .contents)) (h .0));
           onward = run-push opened ks;
           issuing = λ lent. issued-rightly m law r eq c (h .0) lent;
           looking = looked-up-rightly m r c;

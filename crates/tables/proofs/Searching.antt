@@ -12,19 +12,19 @@ use Rattle.std.specs.declared.option.Option.the-variants.{Some, None}
 use Rattle.kinds.specs.Meaning.{Meaning, Lawful}
 use Rattle.tables.specs.Words.{each, orElse}
 use Rattle.results.specs.Results.{Results}
-use Rattle.tables.specs.Contents.{Contents, Encounter, Place, Acceptable, places, whole, valueOf, putAt}
+use Rattle.tables.specs.Contents.{Contents, Encounter, Place, places, whole, valueOf, putAt}
+use Rattle.tables.specs.Acceptance.{Acceptable}
 use Rattle.tables.specs.Starts.{cellsOf, onward, next, startsOn, choices, reset, nextAt, advance, remaining, turnedAt, turned}
-use Rattle.tables.specs.Promises.{OneByOne}
+use Rattle.tables.specs.Bridges.{OneByOne}
 use Rattle.tables.proofs.Lists.{none-some, some-same, nth-some, each-same}
 use Rattle.tables.proofs.Covering.{starts-on}
 use Rattle.tables.proofs.Placing.{Apart, Separate, separate, put-here, put-put, put-whole}
+use Rattle.tables.proofs.Keeping.{apart-untouched, reset-keep}
 use Rattle.tables.proofs.Bridging.{Placed, all-placed}
 
 module _ {V C R : Type 0} (m : Meaning V C) (law : Lawful m) (r : Results R) (c : Contents V C R) (ok : Acceptable m r c) where
-  -- what reset leaves
-  reset-keep : (p : Place V) (ps : List (Place V)) → All (Apart p) ps → (e : Encounter V) → valueOf (reset m c ps e) p ≡ valueOf e p
-  reset-keep p [] a e = refl
-  reset-keep p (t ∷ ps) a e = reset-keep p ps (a .1) (putAt t (t .quantity .least) e) ∙ a .0 .0 (t .quantity .least) e
+  reset-at : (p : Place V) (ps : List (Place V)) → All (Apart p) ps → (e : Encounter V) → valueOf (reset m c ps e) p ≡ valueOf e p
+  reset-at p ps a e = reset-keep m c (p .side) (p .number) ps (apart-untouched p ps a) e
 
   reset-put : (p : Place V) (ps : List (Place V)) → All (Apart p) ps → (v : V) (e : Encounter V) → putAt p v (reset m c ps e) ≡ reset m c ps (putAt p v e)
   reset-put p [] a v e = refl
@@ -58,7 +58,7 @@ module _ {V C R : Type 0} (m : Meaning V C) (law : Lawful m) (r : Results R) (c 
       let few : p .number < 16 = omega (arith, nth-some (c .quantities) (p .number) (p .quantity) n, ok .quantities .0) in
       let s = reset m c ps (putAt p w e) in
       let f : V → List (Encounter V) = λ v. choices m c ps (putAt p v e) in
-      let here : valueOf s p ≡ Some w = reset-keep p ps (d .0) (putAt p w e) ∙ put-here (p .side) (p .number) w e l few in
+      let here : valueOf s p ≡ Some w = reset-at p ps (d .0) (putAt p w e) ∙ put-here (p .side) (p .number) w e l few in
       ap₂ _++_ ih
       (each-same (λ v. choices m c ps (putAt p v s)) f (λ v. ap (choices m c ps) (put-reset p ps (d .0) v w e) ∙ choices-reset ps (d .1) (putAt p v e)) (later p (valueOf s p)) ∙ ap (λ o. each (later p o) f) here)
       ∙ sym (ap (λ vs. each vs f) (starts-on m law (cellsOf c (p .number)) (p .quantity .greatest) w))
@@ -88,7 +88,7 @@ module _ {V C R : Type 0} (m : Meaning V C) (law : Lawful m) (r : Results R) (c 
       → (u : Option V) → nextAt m c p (valueOf e p) ≡ u → remaining m c (p ∷ ps) e ≡ e ∷ onward (remaining m c (p ∷ ps)) (orElse o (mapped (λ v. reset m c ps (putAt p v e)) u))
   step-by p ps d n e l (Some s) k ih u q =
       let h = advance-reset ps (d .1) e s k in
-      let value : valueOf s p ≡ valueOf e p = sym (reset-keep p ps (d .0) s) ∙ ap (λ x. valueOf x p) h ∙ reset-keep p ps (d .0) e in
+      let value : valueOf s p ≡ valueOf e p = sym (reset-at p ps (d .0) s) ∙ ap (λ x. valueOf x p) h ∙ reset-at p ps (d .0) e in
       ap (λ xs. xs ++ each (later p (valueOf e p)) (λ v. choices m c ps (putAt p v e))) ih
       ∙ ap (λ xs. e ∷ (remaining m c ps s ++ xs)) (ap (λ o. each (later p o) (λ v. choices m c ps (putAt p v e))) (sym value) ∙ each-same (λ v. choices m c ps (putAt p v e)) (λ v. choices m c ps (putAt p v s)) (λ v. sym (choices-outside p ps d e s h v)) (later p (valueOf s p)))
   step-by p ps d n e l None k ih None q =
@@ -108,7 +108,7 @@ module _ {V C R : Type 0} (m : Meaning V C) (law : Lawful m) (r : Results R) (c 
       → cond (isSome o) (Turned ps e o) (turnedAt m c p (Turned ps e o) (nextAt m c p (valueOf (valueOr o (reset m c ps e)) p))) ≡ Turned (p ∷ ps) e (orElse o (mapped (λ v. reset m c ps (putAt p v e)) u))
   turned-by p ps a e (Some s) u q = refl
   turned-by p ps a e None u q =
-      ap (turnedAt m c p (false, reset m c ps e)) (ap (nextAt m c p) (reset-keep p ps a e) ∙ q) ∙ at u
+      ap (turnedAt m c p (false, reset m c ps e)) (ap (nextAt m c p) (reset-at p ps a e) ∙ q) ∙ at u
     where
       at : (u : Option V) → turnedAt m c p (false, reset m c ps e) u ≡ Turned (p ∷ ps) e (mapped (λ v. reset m c ps (putAt p v e)) u)
       at None = ap (λ x. (false, x)) (reset-put p ps a (p .quantity .least) e)
@@ -125,7 +125,7 @@ module _ {V C R : Type 0} (m : Meaning V C) (law : Lawful m) (r : Results R) (c 
   reset-least (p ∷ ps) d n e l =
       let w = p .quantity .least in
       let few : p .number < 16 = omega (arith, nth-some (c .quantities) (p .number) (p .quantity) (n .0), ok .quantities .0) in
-      (reset-keep p ps (d .0) (putAt p w e) ∙ put-here (p .side) (p .number) w e l few, reset-least ps (d .1) (n .1) (putAt p w e) (put-whole (p .side) (p .number) w e l))
+      (reset-at p ps (d .0) (putAt p w e) ∙ put-here (p .side) (p .number) w e l few, reset-least ps (d .1) (n .1) (putAt p w e) (put-whole (p .side) (p .number) w e l))
 
   pub one-by-one : OneByOne m r c
   one-by-one e l =

@@ -15,6 +15,7 @@ use Rattle.std.proofs.shelf.Lists.{take-more-set, take-set-le, take-take, getD-
 use Rattle.std.proofs.shelf.Tests.{cond-both, cond-true, cond-false, and-parts, ltb-true, ltb-false, cases-lt, cases-eq}
 use Rattle.std.specs.declared.option.Option.{Option}
 use Rattle.std.specs.declared.option.Option.the-variants.{Some, None}
+use Rattle.faults.specs.declared.SheetFault.{SheetFault}
 use Rattle.kinds.specs.Meaning.{Meaning}
 use Rattle.items.specs.declared.Counts.{Counts}
 use Rattle.items.specs.declared.Quantity.{Quantity}
@@ -29,7 +30,7 @@ use Rattle.tables.specs.Storage.{Lists, Bounded, RightLengths, columnOf, colum
 use Rattle.tables.specs.Promises.{StoredRightly, HeldRightly}
 use Rattle.tables.proofs.Lists.{none-some, nth-set-same, nth-set-other}
 
-pub no-refusal : (qs : List (Bool × ℕ)) → firstNo qs ≡ None → All (λ q. q .0 ≡ true) qs
+pub no-refusal : (qs : List (Bool × SheetFault)) → firstNo qs ≡ None → All (λ q. q .0 ≡ true) qs
 no-refusal [] h = tt
 no-refusal (q ∷ qs) h = cond-both (q .0) (firstNo qs) (Some (q .1)) (λ o. o ≡ None → All (λ q. q .0 ≡ true) (q ∷ qs)) (λ t k. (t, no-refusal qs k)) (λ _ k. none-some (q .1) (sym k)) h
 
@@ -275,7 +276,7 @@ module _ {V C R : Type 0} (m : Meaning V C) (r : Results R) where
   abbrev Holds : Kept V C R → Sheet V C R → Type 0
   Holds k s = (k .status ≡ s .status) × ((contentsOf (k .counts) (k .lists) ≡ s .contents) × (Bounded (k .counts) × RightLengths (k .lists)))
 
-  holds-edit : (k : Edit V C R) (n : Counts) (l : Lists V C R) → Bounded n → RightLengths l → (o : Option ℕ) → firstNo (asked m r k (contentsOf n l)) ≡ o
+  holds-edit : (k : Edit V C R) (n : Counts) (l : Lists V C R) → Bounded n → RightLengths l → (o : Option SheetFault) → firstNo (asked m r k (contentsOf n l)) ≡ o
       → Holds (keptUnless m r o k n l) (record { status = draft; contents = unlessRefused m r o (edited k (contentsOf n l)) (contentsOf n l) })
   holds-edit k n l b s None e = let t = stored m r n l b s k (no-refusal (asked m r k (contentsOf n l)) e) in (refl, (t .contents, (t .bounded, t .lengths)))
   holds-edit k n l b s (Some i) e = (refl, (refl, (b, s)))

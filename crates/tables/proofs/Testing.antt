@@ -3,11 +3,11 @@ use mathlib.Core.Path.{_≡_, refl}
 use mathlib.Core.Bool.{Bool, true, false, _&&_}
 use mathlib.Core.List.{List, [], _∷_}
 use Prim.Native.Nat.{ℕ, _≤_}
-use lib.Dec.{leb}
+use lib.Dec.{leb, eqb}
 use lib.ListN.{length}
 use Rattle.std.specs.Orderings.{Decides}
 use Rattle.std.specs.shelf.Lists.{All}
-use Rattle.std.proofs.shelf.Tests.{leb-true, le-leb, false≢true}
+use Rattle.std.proofs.shelf.Tests.{leb-true, le-leb, eqb-true, eq-eqb, false≢true}
 use Rattle.std.proofs.shelf.Ways.{decides-and, decides-like, decides-by-and}
 use Rattle.std.specs.declared.option.Option.{Option}
 use Rattle.std.specs.declared.option.Option.the-variants.{Some, None}
@@ -15,9 +15,12 @@ use Rattle.kinds.specs.Meaning.{Meaning}
 use Rattle.items.specs.declared.Quantity.{Quantity}
 use Rattle.items.specs.declared.Row.{Row}
 use Rattle.items.specs.declared.Entry.{Entry}
+use Rattle.items.specs.declared.Counts.{Counts}
+use Rattle.tables.specs.Storage.{Lists, RightLengths, rightLengths, contentsOf, inOrder}
 use Rattle.tables.specs.Words.{UpTo, upTo, allOf}
 use Rattle.results.specs.Results.{Results}
-use Rattle.tables.specs.Contents.{Contents, Acceptable, acceptable, rangeLawful, rowLawful, entryLawful, entriesLawful, EntriesLawful, defaultLawful, DefaultLawful}
+use Rattle.tables.specs.Contents.{Contents}
+use Rattle.tables.specs.Acceptance.{Acceptable, acceptable, rangeLawful, rowLawful, entryLawful, entriesLawful, EntriesLawful, defaultLawful, DefaultLawful}
 
 itself : (b : Bool) → Decides b (b ≡ true)
 itself b = ((λ h. h), λ h. h)
@@ -47,3 +50,17 @@ module _ {V C R : Type 0} (m : Meaning V C) (r : Results R) where
       (decides-and _ _ (up-to 16 (rowLawful m qs) (λ w. rowLawful m qs w ≡ true) (λ w. itself (rowLawful m qs w)) ws)
       (decides-and _ _ (up-to 16 (λ k. entriesLawful m qs ws (k .entries) && r .lawful (k .result)) (λ k. EntriesLawful m qs ws (k .entries) × (r .lawful (k .result) ≡ true)) (λ k. decides-and (entriesLawful m qs ws (k .entries)) (r .lawful (k .result)) (entries qs ws (k .entries)) (itself (r .lawful (k .result)))) (c .columns))
       (decides-and _ _ (up-to 8 (entriesLawful m qs ws) (EntriesLawful m qs ws) (entries qs ws) (c .nevers)) (by-default (c .default))))))
+
+  equals : (a b : ℕ) → Decides (eqb a b) (a ≡ b)
+  equals a b = (eqb-true a b, eq-eqb a b)
+
+  lengths : (l : Lists V C R) → Decides (rightLengths l) (RightLengths l)
+  lengths l =
+      decides-like (rightLengths l)
+      (λ h. record { quantities = h .0; rows = h .1 .0; entries = h .1 .1 .0; results = h .1 .1 .1 })
+      (λ a. (a .quantities, (a .rows, (a .entries, a .results))))
+      (decides-and _ _ (equals (length (l .quantities)) 16) (decides-and _ _ (equals (length (l .rows)) 16) (decides-and _ _ (equals (length (l .entries)) 384) (equals (length (l .results)) 17))))
+
+  -- the first question, of counts and lists
+  pub in-order : (n : Counts) (l : Lists V C R) → Decides (inOrder m r n l) (RightLengths l × Acceptable m r (contentsOf n l))
+  in-order n l = decides-and (rightLengths l) (acceptable m r (contentsOf n l)) (lengths l) (accepts (contentsOf n l))

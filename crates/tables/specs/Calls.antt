@@ -9,13 +9,17 @@ use Rattle.std.specs.Finite.{nth}
 use Rattle.std.specs.declared.option.Option.{Option}
 use Rattle.std.specs.declared.option.Option.the-variants.{Some, None}
 use Rattle.kinds.specs.Meaning.{Meaning}
+use Rattle.faults.specs.declared.KindFault.the-variants.{Range, Cell as CellOf}
+use Rattle.faults.specs.declared.SheetFault.{SheetFault}
+use Rattle.faults.specs.declared.SheetFault.the-variants.{TooManyQuantities, Kind, TooManyRows, NoSuchQuantity, WrongMode, TooManyColumns, TooManyNevers, UnlawfulResult, NoSuchPlace, NothingToStrike}
 use Rattle.items.specs.declared.Quantity.{Quantity}
 use Rattle.items.specs.declared.Row.{Row}
 use Rattle.items.specs.declared.Entry.{Entry}
 use Rattle.items.specs.declared.Entry.the-variants.{Any, Cell}
 use Rattle.tables.specs.Words.{changed}
 use Rattle.results.specs.Results.{Results}
-use Rattle.tables.specs.Contents.{Contents, Column, Encounter, rangeLawful, rowLawful, entryLawful}
+use Rattle.tables.specs.Contents.{Contents, Column, Encounter}
+use Rattle.tables.specs.Acceptance.{rangeLawful, rowLawful, entryLawful}
 use Rattle.tables.specs.Issues.{issue, refused}
 
 -- the calls that alter a draft
@@ -45,8 +49,8 @@ pub record Sheet (V C R : Type 0) : Type 0 where
   pub status : Status
   pub contents : Contents V C R
 
--- the number of the first question answered no
-abbrev pub firstNo : List (Bool × ℕ) → Option ℕ
+-- the fault of the first question answered no
+abbrev pub firstNo : List (Bool × SheetFault) → Option SheetFault
 firstNo [] = None
 firstNo (q ∷ qs) = cond (q .0) (firstNo qs) (Some (q .1))
 
@@ -87,6 +91,10 @@ module _ {V C R : Type 0} where
   edited strikeColumn c = withColumns c (take (length (c .columns) - 1) (c .columns))
   edited strikeNever c = withNevers c (take (length (c .nevers) - 1) (c .nevers))
 
+  -- never n is column 16 + n
+  abbrev pub columnExists : Contents V C R → ℕ → Bool
+  columnExists c j = cond (ltb j 16) (ltb j (length (c .columns))) (ltb (j - 16) (length (c .nevers)))
+
   abbrev pub empty : Contents V C R
   empty = record { quantities = []; rows = []; columns = []; nevers = []; default = None }
 
@@ -98,23 +106,21 @@ module _ {V C R : Type 0} (m : Meaning V C) (r : Results R) where
   lawfulAt qs None x = false
   lawfulAt qs (Some w) x = entryLawful m qs w x
 
-  -- the questions of an edit in order, each with the number of its refusal
-  abbrev pub asked : Edit V C R → Contents V C R → List (Bool × ℕ)
-  asked (nameQuantity q) c = (ltb (length (c .quantities)) 16, 2) ∷ (rangeLawful m q, 3) ∷ []
-  asked (addRow w) c = (ltb (length (c .rows)) 16, 4) ∷ (ltb (w .quantity) (length (c .quantities)), 5) ∷ (rowLawful m (c .quantities) w, 6) ∷ []
-  asked (addColumn x) c = (ltb (length (c .columns)) 16, 7) ∷ (r .lawful x, 9) ∷ []
-  asked addNever c = (ltb (length (c .nevers)) 8, 8) ∷ []
-  asked (setCell i j x) c =
-      (ltb i (length (c .rows)) && cond (ltb j 16) (ltb j (length (c .columns))) (ltb (j - 16) (length (c .nevers))), 10)
-      ∷ (lawfulAt (c .quantities) (nth (c .rows) i) x, 11) ∷ []
-  asked (setDefault x) c = (r .lawful x, 9) ∷ []
+  -- the questions of an edit in order, each with the fault of a no
+  abbrev pub asked : Edit V C R → Contents V C R → List (Bool × SheetFault)
+  asked (nameQuantity q) c = (ltb (length (c .quantities)) 16, TooManyQuantities) ∷ (rangeLawful m q, Kind Range) ∷ []
+  asked (addRow w) c = (ltb (length (c .rows)) 16, TooManyRows) ∷ (ltb (w .quantity) (length (c .quantities)), NoSuchQuantity) ∷ (rowLawful m (c .quantities) w, WrongMode) ∷ []
+  asked (addColumn x) c = (ltb (length (c .columns)) 16, TooManyColumns) ∷ (r .lawful x, UnlawfulResult) ∷ []
+  asked addNever c = (ltb (length (c .nevers)) 8, TooManyNevers) ∷ []
+  asked (setCell i j x) c = (ltb i (length (c .rows)) && columnExists c j, NoSuchPlace) ∷ (lawfulAt (c .quantities) (nth (c .rows) i) x, Kind CellOf) ∷ []
+  asked (setDefault x) c = (r .lawful x, UnlawfulResult) ∷ []
   asked clearDefault c = []
-  asked strikeColumn c = (ltb 0 (length (c .columns)), 12) ∷ []
-  asked strikeNever c = (ltb 0 (length (c .nevers)), 12) ∷ []
+  asked strikeColumn c = (ltb 0 (length (c .columns)), NothingToStrike) ∷ []
+  asked strikeNever c = (ltb 0 (length (c .nevers)), NothingToStrike) ∷ []
 
-  abbrev pub unlessRefused : Option ℕ → Contents V C R → Contents V C R → Contents V C R
+  abbrev pub unlessRefused : Option SheetFault → Contents V C R → Contents V C R → Contents V C R
   unlessRefused None after before = after
-  unlessRefused (Some n) after before = before
+  unlessRefused (Some f) after before = before
 
   -- What a call makes of a draft or an issued sheet. One that the state does not allow is never made.
   abbrev pub madeBy : Call V C R → Status → Contents V C R → Sheet V C R

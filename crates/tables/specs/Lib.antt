@@ -1,9 +1,17 @@
 pub mod Words
 pub mod Contents
+pub mod Acceptance
 pub mod Outcomes
 pub mod Starts
 pub mod Issues
 pub mod Lookups
 pub mod Calls
 pub mod Storage
+pub mod Margins
+pub mod Rows
+pub mod Faultless
+pub mod Bridges
+pub mod Issued
+pub mod LookedUp
+pub mod Edits
 pub mod Promises

@@ -95,5 +95,5 @@ module _ {V C R : Type 0} (m : Meaning V C) (r : Results R) (c : Contents V C R)
   outcome e = cond (someMet m (c .rows) (c .nevers) e) barred (judged r (c .default) (columnsMet m 0 (c .rows) (c .columns) e))
 
   -- is the outcome the same with the flights exchanged
-  abbrev pub even : Encounter V → Bool
-  even e = alike r (outcome e) (outcome (exchange c e))
+  abbrev pub symmetric : Encounter V → Bool
+  symmetric e = alike r (outcome e) (outcome (exchange c e))

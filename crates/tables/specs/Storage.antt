@@ -1,6 +1,7 @@
 -- How five counts and four lists hold the contents of a sheet, and what each edit writes. Assumes nothing.
 use mathlib.Core.Path.{_≡_}
-use mathlib.Core.Bool.{Bool, true, false, cond}
+use mathlib.Core.Bool.{Bool, true, false, cond, _&&_}
+use lib.Dec.{eqb}
 use mathlib.Core.List.{List, [], _∷_, _++_, map}
 use Prim.Native.Nat.{ℕ, suc, _+_, _*_, _-_, _≤_}
 use lib.ListN.{length, getD, take, set}
@@ -13,9 +14,11 @@ use Rattle.items.specs.declared.Quantity.{Quantity}
 use Rattle.items.specs.declared.Row.{Row}
 use Rattle.items.specs.declared.Entry.{Entry}
 use Rattle.items.specs.declared.Entry.the-variants.{Any, Cell}
+use Rattle.faults.specs.declared.SheetFault.{SheetFault}
 use Rattle.kinds.specs.Meaning.{Meaning}
 use Rattle.results.specs.Results.{Results}
 use Rattle.tables.specs.Contents.{Contents, Column}
+use Rattle.tables.specs.Acceptance.{acceptable}
 use Rattle.tables.specs.Calls.{Edit, nameQuantity, addRow, addColumn, addNever, setCell, setDefault, clearDefault, strikeColumn, strikeNever, Call, edit, tryIssue, lookUp, withdraw, Status, draft, issued, firstNo, asked}
 use Rattle.tables.specs.Issues.{issue, refused}
 
@@ -36,6 +39,10 @@ pub record RightLengths {V C R : Type 0} (l : Lists V C R) : Type 0 where
   pub rows : length (l .rows) ≡ 16
   pub entries : length (l .entries) ≡ 384
   pub results : length (l .results) ≡ 17
+
+-- the same as a test
+abbrev pub rightLengths : {V C R : Type 0} → Lists V C R → Bool
+rightLengths l = eqb (length (l .quantities)) 16 && (eqb (length (l .rows)) 16 && (eqb (length (l .entries)) 384 && eqb (length (l .results)) 17))
 
 -- the entries of column j (never n is column 16 + n) in the first n rows: 24 a row
 abbrev pub columnOf : {C : Type 0} → List (Entry C) → ℕ → ℕ → List (Entry C)
@@ -104,9 +111,13 @@ abbrev pub openedOn : {V C R : Type 0} → Lists V C R → Kept V C R
 openedOn l = record { status = draft; counts = record { quantities = 0; rows = 0; columns = 0; nevers = 0; default = false }; lists = l }
 
 module _ {V C R : Type 0} (m : Meaning V C) (r : Results R) where
-  abbrev pub keptUnless : Option ℕ → Edit V C R → Counts → Lists V C R → Kept V C R
+  -- the first question of every call but open: are the lists of right length, and is each entry in use one that the draft calls would accept
+  abbrev pub inOrder : Counts → Lists V C R → Bool
+  inOrder n l = rightLengths l && acceptable m r (contentsOf n l)
+
+  abbrev pub keptUnless : Option SheetFault → Edit V C R → Counts → Lists V C R → Kept V C R
   keptUnless None k n l = record { status = draft; counts = countsAfter k n; lists = listsAfter k n l }
-  keptUnless (Some i) k n l = record { status = draft; counts = n; lists = l }
+  keptUnless (Some f) k n l = record { status = draft; counts = n; lists = l }
 
   abbrev pub keptBy : Call V C R → Status → Counts → Lists V C R → Kept V C R
   keptBy (edit k) draft n l = keptUnless (firstNo (asked m r k (contentsOf n l))) k n l

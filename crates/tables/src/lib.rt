@@ -1,12 +1,15 @@
 ghost use Rattle.items.specs.declared.Counts.{Counts};
 ghost use Rattle.std.specs.Orderings.{Decides};
-ghost use Rattle.tables.specs.Contents.{Contents, Encounter, Acceptable, acceptable};
+ghost use Rattle.tables.specs.Contents.{Contents, Encounter};
+ghost use Rattle.tables.specs.Acceptance.{Acceptable, acceptable};
 ghost use mathlib.Core.List.{List};
 ghost use mathlib.Core.Path.{_≡_};
 ghost use Rattle.std.specs.declared.option.Option.the-variants.{None};
 ghost use Rattle.tables.specs.Calls.{Call, Edit, asked, firstNo};
 ghost use Rattle.tables.specs.Storage.{Lists, Bounded, RightLengths, contentsOf};
-ghost use Rattle.tables.specs.Promises.{Bridge, MadeOfStarts, OneByOne, IssuedRightly, StoredRightly, EveryRun};
+ghost use Rattle.tables.specs.Bridges.{Bridge, MadeOfStarts, OneByOne};
+ghost use Rattle.tables.specs.Issued.{IssuedRightly};
+ghost use Rattle.tables.specs.Promises.{StoredRightly, EveryRun};
 use kinds::Kind;
 use results::ResultKind;
 
