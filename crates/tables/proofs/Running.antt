@@ -30,7 +30,7 @@ use Rattle.tables.specs.Storage.{Lists, RightLengths, contentsOf, openedOn, ke
 use Rattle.tables.specs.Faultless.{Faultless}
 use Rattle.tables.specs.Issued.{Says}
 use Rattle.tables.specs.Promises.{EveryRun}
-use Rattle.tables.proofs.Lists.{none-some}
+use Rattle.tables.proofs.Lists.{changed-length}
 use Rattle.tables.proofs.Issuing.{issue-says, issued-rightly}
 use Rattle.tables.proofs.Looking.{looked-up-rightly}
 use Rattle.tables.proofs.Storing.{no-refusal, held-rightly}
@@ -50,13 +50,8 @@ module _ {X : Type 0} (n : ℕ) (P : X → Type 0) where
   up-to-map Q f g xs h = (omega (arith, length-map xs f, h .0), all-map Q f xs (all-weaker P (λ x. Q (f x)) g xs (h .1)))
 
   up-to-changed : (f : X → X) → ((x : X) → P x → P (f x)) → (i : ℕ) (xs : List X) → UpTo n P xs → UpTo n P (changed i f xs)
-  up-to-changed f g i xs h = (subst (λ k. k ≤ n) (sym (long i xs)) (h .0), all i xs (h .1))
+  up-to-changed f g i xs h = (subst (λ k. k ≤ n) (sym (changed-length i f xs)) (h .0), all i xs (h .1))
     where
-      long : (i : ℕ) (xs : List X) → length (changed i f xs) ≡ length xs
-      long i [] = refl
-      long zero (x ∷ xs) = refl
-      long (suc i) (x ∷ xs) = ap suc (long i xs)
-
       all : (i : ℕ) (xs : List X) → All P xs → All P (changed i f xs)
       all i [] h = tt
       all zero (x ∷ xs) h = (g x (h .0), h .1)

@@ -104,7 +104,7 @@ counting-changed f h g a (suc n) zero j e p o l =
     ap₂ _∷_ (subst (λ i. h i ≡ g (f i)) here p) (map-counting-same h f (a + 1) n (λ i q t. o i (omega arith) (λ k. omega arith)))
 counting-changed f h g a (suc n) (suc d) j e p o l = ap₂ _∷_ (o a (omega arith) (λ k. omega arith)) (counting-changed f h g (a + 1) n d j (omega arith) p (λ i q t. o i (omega arith) t) (omega arith))
 
-set-changed : {X : Type 0} (xs : List X) (i : ℕ) (x : X) → changed i (λ y. x) xs ≡ set xs i x
+pub set-changed : {X : Type 0} (xs : List X) (i : ℕ) (x : X) → changed i (λ y. x) xs ≡ set xs i x
 set-changed [] i x = refl
 set-changed (y ∷ xs) zero x = refl
 set-changed (y ∷ xs) (suc i) x = ap (λ ys. y ∷ ys) (set-changed xs i x)

@@ -65,6 +65,13 @@ module _ {V C R : Type 0} where
     pub columns : d .columns ≡ c .columns
     pub nevers : d .nevers ≡ c .nevers
 
+  -- entry i of column j is x, and the others are as they were
+  abbrev pub SetInColumn : ℕ → ℕ → Entry C → Contents V C R → Contents V C R → Type 0
+  SetInColumn i j x c d = OneBecomes j (λ k l. (l .result ≡ k .result) × OneBecomes i (λ _ y. y ≡ x) (k .entries) (l .entries)) (c .columns) (d .columns) × AllButColumns c d
+
+  abbrev pub SetInNever : ℕ → ℕ → Entry C → Contents V C R → Contents V C R → Type 0
+  SetInNever i n x c d = OneBecomes n (OneBecomes i (λ _ y. y ≡ x)) (c .nevers) (d .nevers) × AllButNevers c d
+
   -- what the edit makes of the contents c is d
   abbrev pub Changes : Edit V C R → Contents V C R → Contents V C R → Type 0
   Changes (nameQuantity q) c d = (d .quantities ≡ c .quantities ++ (q ∷ [])) × AllButQuantities c d
@@ -75,9 +82,7 @@ module _ {V C R : Type 0} where
   Changes (addColumn x) c d = (k : Column C R) × (d .columns ≡ c .columns ++ (k ∷ [])) × (k .result ≡ x) × AnyInEach (c .rows) (k .entries) × AllButColumns c d
   Changes addNever c d = (n : List (Entry C)) × (d .nevers ≡ c .nevers ++ (n ∷ [])) × AnyInEach (c .rows) n × AllButNevers c d
   -- never n is column 16 + n
-  Changes (setCell i j x) c d =
-      (j < 16 → OneBecomes j (λ k l. (l .result ≡ k .result) × OneBecomes i (λ _ y. y ≡ x) (k .entries) (l .entries)) (c .columns) (d .columns) × AllButColumns c d)
-      × ((n : ℕ) → j ≡ 16 + n → OneBecomes n (λ k l. OneBecomes i (λ _ y. y ≡ x) k l) (c .nevers) (d .nevers) × AllButNevers c d)
+  Changes (setCell i j x) c d = (j < 16 → SetInColumn i j x c d) × ((n : ℕ) → j ≡ 16 + n → SetInNever i n x c d)
   Changes (setDefault x) c d = (d .default ≡ Some x) × AllButDefault c d
   Changes clearDefault c d = (d .default ≡ None) × AllButDefault c d
   Changes strikeColumn c d = LastGone (c .columns) (d .columns) × AllButColumns c d

@@ -1,7 +1,7 @@
 use Rattle.tables.proofs.Bridging.{bridge}
 use Rattle.tables.proofs.Making.{made-of-starts}
 use Rattle.tables.proofs.Searching.{one-by-one}
-use Rattle.tables.proofs.bridge_stands.Needs as need
+use Rattle.tables.proofs.starts_stand_for_all.Needs as need
 
 pub returns : need.returns
 returns g c d ok =
