@@ -32,7 +32,7 @@ module _ {V C : Type 0} (m : Meaning V C) (law : Lawful m) where
   earliest-later [] v s e = none-some s e
   earliest-later (x ∷ xs) v s e = earlier-keeps (m .rank) (λ u. m .rank v < m .rank u) (m .stop x v) (earliest m xs v) (λ u k. law .later x v u k .0) (λ u k. earliest-later xs v u k) s e
 
-  next-later : (xs : List C) (z v s : V) → next m xs z v ≡ Some s → (m .rank v < m .rank s) × (m .rank s ≤ m .rank z)
+  pub next-later : (xs : List C) (z v s : V) → next m xs z v ≡ Some s → (m .rank v < m .rank s) × (m .rank s ≤ m .rank z)
   next-later xs z v s e = elim (next-cases (m .rank) z (earliest m xs v)) [
     | inl h ↦ let q : h .0 ≡ s = some-same (h .0) s (sym (h .1 .0) ∙ e) in subst (λ u. (m .rank v < m .rank u) × (m .rank u ≤ m .rank z)) q (earliest-later xs v (h .0) (h .1 .1 .0), h .1 .1 .1)
     | inr h ↦ none-some s (sym (h .0) ∙ e)

@@ -25,6 +25,7 @@ use Rattle.tables.proofs.Lists.{all-nth, nth-some, all-both, all-each}
 use Rattle.tables.proofs.Covering.{In, starts-within}
 use Rattle.tables.proofs.Placing.{Apart, Separate, separate, put-here, put-whole}
 use Rattle.tables.proofs.Bridging.{Placed, all-placed, chosen-at}
+use Rattle.tables.proofs.Ordering.{in-order}
 
 length-each : {X Y : Type 0} (f : X → List Y) (n : ℕ) → ((x : X) → length (f x) ≡ n) → (xs : List X) → length (each xs f) ≡ length xs * n
 length-each f n h [] = sym (zero-mul n)
@@ -48,4 +49,4 @@ module _ {V C R : Type 0} (m : Meaning V C) (law : Lawful m) (r : Results R) (c 
       (startsAt m c p) (starts-within m law (q .least) (q .greatest) (cellsOf c (p .number)) (suc (m .rank (q .greatest) - m .rank (q .least))) (q .least) (omega arith) ordered))
 
   pub made-of-starts : MadeOfStarts m r c
-  made-of-starts lent w = (choices-count (places c) lent, choices-in (places c) (separate 0 (c .quantities)) (all-placed m law r c ok) lent w)
+  made-of-starts lent w = (choices-count (places c) lent, choices-in (places c) (separate 0 (c .quantities)) (all-placed m law r c ok) lent w, in-order m law r c ok lent w)

@@ -9,7 +9,7 @@ ghost use Rattle.items.specs.declared.Counts.{Counts};
 ghost use Rattle.std.specs.Orderings.{Decides};
 ghost use Rattle.std.specs.declared.option.Option.the-variants.{None};
 ghost use Rattle.tables.specs.Acceptance.{Acceptable, acceptable};
-ghost use Rattle.tables.specs.Bridges.{Bridge, MadeOfStarts, OneByOne};
+ghost use Rattle.tables.specs.Bridges.{StartsGoOn, Bridge, MadeOfStarts, OneByOne};
 ghost use Rattle.tables.specs.Calls.{Call, Edit, asked, firstNo};
 ghost use Rattle.tables.specs.Contents.{Contents, Encounter};
 ghost use Rattle.tables.specs.Edits.{EditedRightly};
@@ -28,8 +28,15 @@ pub fn rows_read_rightly<K: Kind>() -> u8
     0
 }
 
-// Each encounter in range has the outcomes of one made of starts; those are as many as the count,
-// and the search from the least values on comes to all of them in order.
+// The starts of a range are its least value and then the earliest stops, up to its greatest.
+pub fn starts_are_the_stops<K: Kind>() -> u8
+    ensures { λ _. ⌜ StartsGoOn (K·Kind .meaning) ⌝ }
+{
+    0
+}
+
+// Each encounter in range has the outcomes of one made of starts; those are as many as the count
+// and stand in order, and the search from the least values on comes to all of them.
 pub fn starts_stand_for_all<K: Kind, R: ResultKind>() -> u8
     ensures { λ _. ⌜ ((c : Contents K·Value K·Cell R) → Acceptable (K·Kind .meaning) (R·ResultKind .results) c
         → Bridge (K·Kind .meaning) (R·ResultKind .results) c × MadeOfStarts (K·Kind .meaning) (R·ResultKind .results) c × OneByOne (K·Kind .meaning) (R·ResultKind .results) c) ⌝ }
