@@ -1,7 +1,10 @@
 -- The margins of two flights over their minima: a minimum is kept where its margin is 0 or more. Assumes nothing.
+use mathlib.Core.Path.{_≡_}
+use mathlib.Core.Logic.{_⊎_}
 use mathlib.Core.Bool.{Bool, cond, _||_}
 use lib.IntN.{ℤ, pos, negsuc, natAbs, _+ℤ_, _-ℤ_, _*ℤ_}
-use lib.Signed.{leZ, ltZ}
+use lib.Signed.{leZ, ltZ, _≤ℤ_, _<ℤ_}
+use Rattle.std.specs.Orderings.{Decides}
 use Rattle.std.specs.Numbers.{minZ}
 use Rattle.results.specs.declared.period.Period.{Period}
 
@@ -36,6 +39,13 @@ oppositeMargin passing n t = marginAt (minutesAfter passing (n .from)) (minutesA
 abbrev pub kept : ℤ → Bool
 kept margin = leZ (pos 0) margin
 
--- one kept minimum separates
 abbrev pub separated : ℤ → ℤ → ℤ → Bool
 separated vertical lateral longitudinal = kept vertical || (kept lateral || kept longitudinal)
+
+pub record MarginsMean : Type 0 where
+  -- the flights exchanged have the same margins
+  pub exchanged : (a b : ℤ) → difference a b ≡ difference b a
+  -- outside of a period its minimum is kept, and inside it is not
+  pub outside : (s e t : ℤ) → Decides (kept (marginAt s e t)) ((t <ℤ s) ⊎ (e <ℤ t))
+  -- one kept minimum separates
+  pub one : (v l g : ℤ) → Decides (separated v l g) ((pos 0 ≤ℤ v) ⊎ ((pos 0 ≤ℤ l) ⊎ (pos 0 ≤ℤ g)))

@@ -15,6 +15,7 @@ ghost use Rattle.tables.specs.Contents.{Contents, Encounter};
 ghost use Rattle.tables.specs.Edits.{EditedRightly};
 ghost use Rattle.tables.specs.Issued.{IssuedRightly};
 ghost use Rattle.tables.specs.LookedUp.{LookedUpRightly};
+ghost use Rattle.tables.specs.Margins.{MarginsMean};
 ghost use Rattle.tables.specs.Promises.{StoredRightly, EveryRun};
 ghost use Rattle.tables.specs.Rows.{ReadRightly};
 ghost use Rattle.tables.specs.Storage.{Lists, Bounded, RightLengths, contentsOf, inOrder};
@@ -85,6 +86,13 @@ pub fn first_question_is_decided<K: Kind, R: ResultKind>() -> u8
 // The law over runs.
 pub fn every_run_is_right<K: Kind, R: ResultKind>() -> u8
     ensures { λ _. ⌜ ((calls : List (Call K·Value K·Cell R)) → EveryRun (K·Kind .meaning) (R·ResultKind .results) calls) ⌝ }
+{
+    0
+}
+
+// The margins are the same with the flights exchanged, and tell whether a minimum is kept.
+pub fn margins_mean_what_they_say() -> u8
+    ensures { λ _. ⌜ MarginsMean ⌝ }
 {
     0
 }
