@@ -24,7 +24,7 @@ use Rattle.tables.specs.Outcomes.{test}
 use Rattle.tables.specs.Starts.{count, starts}
 use Rattle.tables.specs.Issues.{Issue, tooMany, shownGap, shownClash, shownAsymmetry, accepted, answered, issue}
 use Rattle.tables.specs.Lookups.{told, lookUp}
-use Rattle.tables.specs.Margins.{oppositeMargin}
+use Rattle.tables.specs.Margins.{verticalMargin, lateralMargin, sameMargin, oppositeMargin, separated}
 use Rattle.examples.specs.Writing.{Page, figure, level, name, minute, window, filled, flights, lent, number}
 use Rattle.examples.specs.Sheets.{vertical, verticalSheet, sameDirection, many, noQuantities, neverForA, twoRows, bothOrBoth, alwaysMet}
 
@@ -72,6 +72,12 @@ pub record Worked : Type 0 where
   pub wholeDayAlwaysHolds : allOf (λ t. house .holds (window 360 359) (minute t)) (counting 0 1440) ≡ true
   pub wholeDayStillStops : house .stop (window 360 359) (minute 0) ≡ Some (minute 360)
   pub wholeDayHasTwoStarts : starts house (window 360 359 ∷ []) (record { scope = Flight; least = minute 0; greatest = minute 1439 }) ≡ minute 0 ∷ minute 360 ∷ []
+  -- margins: 2,000 feet between levels 290 and 310, 9 nautical miles 95 tenths apart, 15 minutes just not kept
+  pub verticalJustKept : verticalMargin (pos 290) (pos 310) (pos 2000) ≡ pos 0
+  pub lateralKept : lateralMargin (negsuc 44) (pos 50) (pos 9) ≡ pos 5
+  pub sameDirectionLost : sameMargin (pos 36000) (pos 35101) (pos 15) ≡ negsuc 0
+  pub oneKeptSeparates : separated (negsuc 0) (pos 0) (negsuc 0) ≡ true
+  pub noneKeptDoesNot : separated (negsuc 0) (negsuc 0) (negsuc 0) ≡ false
   -- the margin of a period
   pub marginBefore : margin 35099 ≡ pos 0
   pub marginAtTheStart : margin 35100 ≡ negsuc 0
