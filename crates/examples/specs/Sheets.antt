@@ -64,6 +64,16 @@ neverForA = record {
   default = Some (figure 1);
 }
 
+-- a minimum by the level of A alone
+abbrev pub levelOfA : Page
+levelOfA = record {
+  quantities = levels Flight 660 ∷ [];
+  rows = row 0 A ∷ [];
+  columns = column 1000 (band 0 280 ∷ []) ∷ column 2000 (band 281 660 ∷ []) ∷ [];
+  nevers = [];
+  default = None;
+}
+
 -- two rows that read one quantity
 abbrev pub twoRows : Page
 twoRows = record {
@@ -91,3 +101,17 @@ bearing (x ∷ xs) = column x [] ∷ bearing xs
 
 abbrev pub alwaysMet : List ℕ → Page
 alwaysMet xs = record { quantities = []; rows = []; columns = bearing xs; nevers = []; default = None }
+
+-- a never that is always met
+abbrev pub neverFlown : Page
+neverFlown = record { quantities = []; rows = []; columns = []; nevers = [] ∷ []; default = Some (figure 1) }
+
+-- as much of everything as there may be
+abbrev pub full : Page
+full = record {
+  quantities = replicate 16 (yesOrNo Flight);
+  rows = replicate 16 (row 0 A);
+  columns = replicate 16 (column 1 (replicate 16 any));
+  nevers = replicate 8 (replicate 16 any);
+  default = None;
+}

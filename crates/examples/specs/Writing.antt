@@ -1,9 +1,10 @@
 -- Short words for writing down sheets and encounters at the joined house kinds. Assumes nothing.
-use mathlib.Core.Bool.{Bool, true, false}
-use mathlib.Core.List.{List, [], _∷_, _++_}
+use mathlib.Core.Bool.{true}
+use mathlib.Core.List.{List, [], _++_}
 use Prim.Native.Nat.{ℕ}
 use lib.IntN.{pos}
 use lib.ListN.{length, drop, replicate}
+use Rattle.std.specs.Options.{mapped}
 use Rattle.std.specs.declared.option.Option.{Option}
 use Rattle.std.specs.declared.option.Option.the-variants.{Some, None}
 use Rattle.std.specs.declared.result.Result.{Result}
@@ -79,6 +80,9 @@ abbrev pub lent : Encounter Value
 lent = flights [] []
 
 -- the number of a refusal
+abbrev pub faultNumber : Option SheetFault → Option ℕ
+faultNumber f = mapped sheetNumber f
+
 abbrev pub number : {X : Type 0} → Result X SheetFault → Option ℕ
 number (Ok x) = None
 number (Err f) = Some (sheetNumber f)

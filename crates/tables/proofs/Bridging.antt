@@ -1,34 +1,31 @@
 -- The bridge: each encounter in range is read as one that is made of starts. Assumes nothing.
-use mathlib.Core.Path.{_≡_, refl, sym, ap, subst, _∙_}
-use mathlib.Core.Bool.{Bool, true, false, _&&_}
-use mathlib.Core.Logic.{_⊎_, inl, inr}
-use mathlib.Core.List.{List, [], _∷_, map}
-use Prim.Native.Nat.{ℕ, zero, suc, _+_, _-_, _<_, _≤_}
+use mathlib.Core.Path.{_≡_, sym, ap, subst, _∙_}
+use mathlib.Core.Bool.{true}
+use mathlib.Core.Logic.{inl}
+use mathlib.Core.List.{List, [], _∷_}
+use Prim.Native.Nat.{ℕ, suc, _-_, _<_}
 use native.Mathlib.Omega.{arith}
 use native.Mathlib.Nat.{zero-add}
 use lib.Dec.{leb}
-use lib.ListN.{length}
 use Rattle.std.specs.Finite.{nth}
 use Rattle.std.specs.shelf.Lists.{All}
-use Rattle.std.proofs.shelf.Elements.{all-append, all-map, all-weaker}
-use Rattle.std.proofs.shelf.Tests.{and-parts, and-from, leb-true, le-leb, false≢true}
+use Rattle.std.proofs.shelf.Elements.{all-weaker}
+use Rattle.std.proofs.shelf.Tests.{and-parts, leb-true, false≢true}
 use Rattle.std.specs.declared.option.Option.{Option}
 use Rattle.std.specs.declared.option.Option.the-variants.{Some, None}
 use Rattle.kinds.specs.Meaning.{Meaning, Lawful}
 use Rattle.items.specs.declared.Scope.{Scope}
 use Rattle.items.specs.declared.Scope.the-variants.{Flight, Pair}
-use Rattle.items.specs.declared.Side.{Side}
-use Rattle.items.specs.declared.Quantity.{Quantity}
-use Rattle.tables.specs.Words.{Any, each}
+use Rattle.tables.specs.Words.{Any}
 use Rattle.results.specs.Results.{Results}
-use Rattle.tables.specs.Contents.{Contents, Encounter, Place, InRange, sides, places, placesFrom, valueAt, put, whole, exchange, within, placeInRange, valueOf, putAt}
+use Rattle.tables.specs.Contents.{Contents, Encounter, Place, sides, places, valueAt, whole, exchange, within, placeInRange, valueOf, putAt}
 use Rattle.tables.specs.Acceptance.{Acceptable}
 use Rattle.tables.specs.Outcomes.{holdsFor}
-use Rattle.tables.specs.Starts.{cellsOf, startsFrom, startsAt, choices, fromStarts}
+use Rattle.tables.specs.Starts.{cellsOf, startsAt, choices, fromStarts}
 use Rattle.tables.specs.Bridges.{Bridge}
-use Rattle.tables.proofs.Lists.{all-nth, nth-some, any-map, any-each, any-weaker, any-both, all-given, all-each}
-use Rattle.tables.proofs.Covering.{Same, covered, In, starts-within}
-use Rattle.tables.proofs.Placing.{place, placed, sides-at, Apart, Separate, separate, put-here, put-whole}
+use Rattle.tables.proofs.Lists.{all-nth, nth-some, any-each, any-weaker, any-both}
+use Rattle.tables.proofs.Covering.{covered}
+use Rattle.tables.proofs.Placing.{placed, sides-at, Apart, Separate, separate, put-here, put-whole}
 use Rattle.tables.proofs.Keeping.{apart-untouched, choices-keep}
 use Rattle.tables.proofs.Reading.{Alike, cells-fit, outcome-same}
 

@@ -1,6 +1,6 @@
 -- Each edit changes its item and nothing else. Assumes nothing.
 use mathlib.Core.Path.{_≡_, refl, sym, ap, subst, _∙_}
-use mathlib.Core.Bool.{Bool, true, false, cond}
+use mathlib.Core.Bool.{true}
 use mathlib.Core.List.{List, [], _∷_, _++_, map}
 use Prim.Native.Nat.{ℕ, zero, suc, _+_, _-_, _<_}
 use native.Mathlib.Omega.{arith}
@@ -10,17 +10,15 @@ use Rattle.std.specs.Finite.{nth}
 use Rattle.std.specs.shelf.Lists.{All}
 use Rattle.std.proofs.shelf.Lists.{length-map}
 use Rattle.std.proofs.shelf.Tests.{cond-true, cond-false, lt-ltb, le-ltb, ltb-true}
-use Rattle.std.specs.declared.option.Option.{Option}
-use Rattle.std.specs.declared.option.Option.the-variants.{Some, None}
+use Rattle.std.specs.declared.option.Option.the-variants.{Some}
 use Rattle.kinds.specs.Meaning.{Meaning}
-use Rattle.faults.specs.declared.SheetFault.{SheetFault}
 use Rattle.results.specs.Results.{Results}
 use Rattle.items.specs.declared.Row.{Row}
 use Rattle.items.specs.declared.Entry.{Entry}
 use Rattle.items.specs.declared.Entry.the-variants.{Any}
 use Rattle.tables.specs.Words.{changed}
-use Rattle.tables.specs.Contents.{Contents, Column}
-use Rattle.tables.specs.Calls.{Edit, nameQuantity, addRow, addColumn, addNever, setCell, setDefault, clearDefault, strikeColumn, strikeNever, firstNo, asked, anyOf, withEntries, withColumns, withNevers, edited, unlessRefused}
+use Rattle.tables.specs.Contents.{Contents}
+use Rattle.tables.specs.Calls.{Edit, nameQuantity, addRow, addColumn, addNever, setCell, setDefault, clearDefault, strikeColumn, strikeNever, asked, anyOf, withEntries, withColumns, withNevers, edited, unlessRefused}
 use Rattle.tables.specs.Edits.{EachBecomes, OneBecomes, LastGone, AnyInEach, SetInColumn, SetInNever, Changes, draftOf, EditedRightly}
 use Rattle.tables.proofs.Lists.{none-some, some-same, changed-length}
 use Rattle.tables.proofs.Storing.{no-refusal, set-changed}

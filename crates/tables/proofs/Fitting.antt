@@ -1,8 +1,8 @@
 -- What each outcome means. Assumes nothing.
 use mathlib.Core.Path.{_≡_, refl, sym, ap, subst, _∙_}
-use mathlib.Core.Bool.{Bool, true, false, cond, _||_}
+use mathlib.Core.Bool.{true, false}
 use mathlib.Core.Logic.{_⊎_, inl, inr}
-use mathlib.Core.List.{List, [], _∷_, _++_}
+use mathlib.Core.List.{List, [], _∷_}
 use Prim.Native.Nat.{ℕ, suc, _+_}
 use native.Mathlib.Omega.{arith}
 use native.Mathlib.Nat.{zero-add}
@@ -16,7 +16,7 @@ use Rattle.items.specs.declared.Entry.{Entry}
 use Rattle.tables.specs.Words.{Any, Cut}
 use Rattle.results.specs.Results.{Results}
 use Rattle.tables.specs.Contents.{Contents, Column, Encounter}
-use Rattle.tables.specs.Outcomes.{Outcome, barred, gap, clash, answer, met, someMet, columnsMet, unequal, clashOrAnswer, judged, outcome}
+use Rattle.tables.specs.Outcomes.{barred, met, someMet, columnsMet, unequal, clashOrAnswer, judged, outcome}
 use Rattle.tables.specs.Faultless.{Meets}
 use Rattle.tables.specs.LookedUp.{Unmet, NoNever, Agrees, Disagrees, Fits}
 use Rattle.tables.proofs.Lists.{longer}

@@ -1,12 +1,9 @@
 -- What the encounter lists hold after issue. Assumes nothing.
 use mathlib.Core.Path.{_≡_, refl, subst}
 use mathlib.Core.Bool.{true}
-use mathlib.Core.List.{List}
-use Prim.Native.Nat.{ℕ}
 use Rattle.std.specs.shelf.Lists.{All}
 use Rattle.kinds.specs.Meaning.{Meaning, Lawful}
 use Rattle.results.specs.Results.{Results}
-use Rattle.items.specs.declared.Side.{Side}
 use Rattle.tables.specs.Contents.{Contents, Encounter, places, valueAt, whole}
 use Rattle.tables.specs.Acceptance.{Acceptable}
 use Rattle.tables.specs.Starts.{fromStarts, reset}

@@ -1,21 +1,18 @@
 -- What look-up answers is so. Assumes nothing.
 use mathlib.Core.Path.{_≡_, refl, sym, ap, subst, _∙_}
-use mathlib.Core.Bool.{Bool, true, false, cond, _&&_}
-use mathlib.Core.Logic.{_⊎_, inl, inr}
-use mathlib.Core.List.{List, [], _∷_, _++_, map}
+use mathlib.Core.Bool.{true}
+use mathlib.Core.Logic.{inl, inr}
+use mathlib.Core.List.{List, [], _∷_, map}
 use Prim.Native.Nat.{ℕ, suc}
 use native.Mathlib.Omega.{arith}
-use lib.Dec.{eqb}
-use lib.ListN.{length}
 use Rattle.std.specs.Finite.{nth}
 use Rattle.std.specs.Options.{valueOr}
 use Rattle.std.specs.shelf.Lists.{All}
 use Rattle.std.proofs.shelf.Elements.{all-append, all-map, all-weaker}
-use Rattle.std.proofs.shelf.Tests.{cond-both, cond-true, true≢false, false≢true}
+use Rattle.std.proofs.shelf.Tests.{cond-both, cond-true}
 use Rattle.std.proofs.shelf.Ways.{tells}
-use Rattle.std.specs.declared.option.Option.{Option}
 use Rattle.std.specs.declared.option.Option.the-variants.{Some, None}
-use Rattle.kinds.specs.Meaning.{Meaning, Lawful}
+use Rattle.kinds.specs.Meaning.{Meaning}
 use Rattle.faults.specs.declared.LookupFault.the-variants.{OutOfRange, Barred as NotPossible}
 use Rattle.items.specs.declared.Scope.{Scope}
 use Rattle.items.specs.declared.Scope.the-variants.{Flight, Pair}
@@ -23,10 +20,8 @@ use Rattle.items.specs.declared.Quantity.{Quantity}
 use Rattle.tables.specs.Words.{orElse, first}
 use Rattle.results.specs.Results.{Results}
 use Rattle.tables.specs.Contents.{Contents, Encounter, Place, InRange, sides, places, placesFrom, valueOf, whole, exchange, within, placeInRange}
-use Rattle.tables.specs.Acceptance.{Acceptable}
 use Rattle.tables.specs.Outcomes.{Outcome, barred, gap, clash, answer, outcome}
 use Rattle.tables.specs.Lookups.{Look, shortFor, noResult, found, byOutcome, outsideAt, lookUp}
-use Rattle.tables.specs.Faultless.{Faultless}
 use Rattle.tables.specs.LookedUp.{Outside, FirstOutside, Tells, LookedUpRightly}
 use Rattle.tables.proofs.Lists.{none-some, some-same, all-split, map-all, cut-here, cut-weaker, FirstBy, first-or}
 use Rattle.tables.proofs.Placing.{place, placed}

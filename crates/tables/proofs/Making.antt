@@ -1,29 +1,26 @@
 -- The encounters made of starts lie in range, and are as many as the count. Assumes nothing.
-use mathlib.Core.Path.{_≡_, refl, sym, ap, subst, _∙_}
-use mathlib.Core.Bool.{Bool, true, false, _&&_}
+use mathlib.Core.Path.{_≡_, refl, sym, ap, _∙_}
+use mathlib.Core.Bool.{true}
 use mathlib.Core.List.{List, [], _∷_, map}
-use Prim.Native.Nat.{ℕ, zero, suc, _+_, _*_, _-_, _<_, _≤_}
+use Prim.Native.Nat.{ℕ, suc, _+_, _*_, _-_}
 use native.Mathlib.Omega.{arith}
 use native.Mathlib.Nat.{zero-mul, suc-mul, add-comm}
 use lib.Dec.{leb}
 use lib.ListN.{length, length-append}
-use Rattle.std.specs.Finite.{nth}
 use Rattle.std.specs.shelf.Lists.{All}
-use Rattle.std.proofs.shelf.Elements.{all-map, all-weaker}
-use Rattle.std.proofs.shelf.Lists.{length-map}
+use Rattle.std.proofs.shelf.Elements.{all-weaker}
 use Rattle.std.proofs.shelf.Tests.{and-from, le-leb}
-use Rattle.std.specs.declared.option.Option.{Option}
-use Rattle.std.specs.declared.option.Option.the-variants.{Some, None}
+use Rattle.std.specs.declared.option.Option.the-variants.{Some}
 use Rattle.kinds.specs.Meaning.{Meaning, Lawful}
 use Rattle.tables.specs.Words.{each, product}
 use Rattle.results.specs.Results.{Results}
-use Rattle.tables.specs.Contents.{Contents, Encounter, Place, InRange, places, valueAt, put, whole, within, placeInRange, valueOf, putAt}
+use Rattle.tables.specs.Contents.{Contents, Encounter, Place, places, whole, within, placeInRange, valueOf, putAt}
 use Rattle.tables.specs.Acceptance.{Acceptable}
-use Rattle.tables.specs.Starts.{cellsOf, startsAt, choices, fromStarts}
+use Rattle.tables.specs.Starts.{cellsOf, startsAt, choices}
 use Rattle.tables.specs.Bridges.{MadeOfStarts}
-use Rattle.tables.proofs.Lists.{all-nth, nth-some, all-both, all-each}
+use Rattle.tables.proofs.Lists.{all-nth, all-both, all-each}
 use Rattle.tables.proofs.Covering.{In, starts-within}
-use Rattle.tables.proofs.Placing.{Apart, Separate, separate, put-here, put-whole}
+use Rattle.tables.proofs.Placing.{Separate, separate, put-whole}
 use Rattle.tables.proofs.Bridging.{Placed, all-placed, chosen-at}
 use Rattle.tables.proofs.Ordering.{in-order}
 

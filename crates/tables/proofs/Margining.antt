@@ -1,16 +1,15 @@
 -- What the margins tell. Assumes nothing.
-use mathlib.Core.Path.{_≡_, refl, sym, ap, _∙_}
-use mathlib.Core.Bool.{Bool, true, false, cond, _||_}
+use mathlib.Core.Path.{_≡_, sym, ap, _∙_}
+use mathlib.Core.Bool.{true, false, _||_}
 use mathlib.Core.Logic.{_⊎_, inl, inr, ⊎-elim}
 use native.Mathlib.Omega.{arith}
-use lib.IntN.{ℤ, pos, negsuc, natAbs, _+ℤ_, _-ℤ_}
-use lib.Signed.{leZ, ltZ, _≤ℤ_, _<ℤ_}
+use lib.IntN.{ℤ, pos, negsuc, _-ℤ_}
+use lib.Signed.{ltZ, _≤ℤ_, _<ℤ_}
 use Rattle.std.proofs.shelf.Signed.{ints}
 use Rattle.std.specs.Orderings.{Decides}
-use Rattle.std.specs.Numbers.{minZ}
 use Rattle.std.proofs.shelf.Tests.{cond-both, false≢true}
 use Rattle.std.proofs.shelf.Ways.{decides-or}
-use Rattle.tables.specs.Margins.{difference, marginAt, kept, separated, MarginsMean}
+use Rattle.tables.specs.Margins.{difference, marginAt, kept, MarginsMean}
 
 not-negative : (z : ℤ) → Decides (kept z) (pos 0 ≤ℤ z)
 not-negative z = ((λ h. grind (arith, ints)), λ h. grind (arith, ints))
@@ -39,10 +38,10 @@ kept-outside s e t =
     cond-both (ltZ t s) ((s -ℤ t) -ℤ pos 1) _ P
     (λ a. ((λ _. inl (below t s a)), λ _. apart-kept s t (below t s a)))
     (λ b. cond-both (ltZ e t) ((t -ℤ e) -ℤ pos 1) _ P
-      (λ a. ((λ _. inr (below e t a)), λ _. apart-kept t e (below e t a)))
-      (λ d. cond-both (ltZ (e -ℤ t) (t -ℤ s)) (e -ℤ t) (t -ℤ s) (λ z. P (negsuc 0 -ℤ z))
-        (λ _. lost (e -ℤ t) (inside-lost (e -ℤ t) (not-below e t d)) b d)
-        (λ _. lost (t -ℤ s) (inside-lost (t -ℤ s) (not-below t s b)) b d)))
+    (λ a. ((λ _. inr (below e t a)), λ _. apart-kept t e (below e t a)))
+    (λ d. cond-both (ltZ (e -ℤ t) (t -ℤ s)) (e -ℤ t) (t -ℤ s) (λ z. P (negsuc 0 -ℤ z))
+    (λ _. lost (e -ℤ t) (inside-lost (e -ℤ t) (not-below e t d)) b d)
+    (λ _. lost (t -ℤ s) (inside-lost (t -ℤ s) (not-below t s b)) b d)))
   where
     lost : (z : ℤ) → kept (negsuc 0 -ℤ z) ≡ false → ltZ t s ≡ false → ltZ e t ≡ false → Decides (kept (negsuc 0 -ℤ z)) ((t <ℤ s) ⊎ (e <ℤ t))
     lost z f b d = ((λ k. absurd (false≢true (sym f ∙ k))), λ k. absurd (⊎-elim (not-both t s b) (not-both e t d) k))

@@ -1,9 +1,8 @@
 -- Two encounters that every cell reads alike have the same outcome. Assumes nothing.
 use mathlib.Core.Path.{_≡_, refl, sym, ap, ap₂, subst, _∙_}
-use mathlib.Core.Bool.{Bool, true, false, cond, _&&_, _||_}
-use mathlib.Core.List.{List, [], _∷_, _++_}
+use mathlib.Core.Bool.{true, cond, _&&_, _||_}
+use mathlib.Core.List.{List, [], _∷_}
 use Prim.Native.Nat.{ℕ, suc}
-use native.Mathlib.Omega.{arith}
 use lib.Dec.{eqb}
 use Rattle.std.specs.Finite.{nth}
 use Rattle.std.specs.shelf.Lists.{All}
@@ -23,9 +22,9 @@ use Rattle.items.specs.declared.Entry.{Entry}
 use Rattle.items.specs.declared.Entry.the-variants.{Any, Cell}
 use Rattle.tables.specs.Words.{each}
 use Rattle.results.specs.Results.{Results}
-use Rattle.tables.specs.Contents.{Contents, Column, Encounter, sides, valueAt, exchange}
+use Rattle.tables.specs.Contents.{Contents, Column, Encounter, sides, valueAt}
 use Rattle.tables.specs.Acceptance.{Acceptable, modeFits, modeLawful, cellLawful, rowLawful, EntriesLawful}
-use Rattle.tables.specs.Outcomes.{Outcome, barred, holdsFor, test, met, someMet, columnsMet, judged, outcome}
+use Rattle.tables.specs.Outcomes.{barred, holdsFor, test, met, someMet, columnsMet, judged, outcome}
 use Rattle.tables.specs.Starts.{reading, cellsOf}
 use Rattle.tables.proofs.Lists.{all-split, all-each}
 

@@ -1,16 +1,16 @@
 -- Every run of calls makes a sheet that the draft calls accept, and an issued one is without fault. Assumes nothing.
-use mathlib.Core.Path.{_≡_, refl, sym, ap, subst, _∙_}
-use mathlib.Core.Bool.{Bool, true, false, cond, _&&_}
+use mathlib.Core.Path.{_≡_, refl, sym, subst, _∙_}
+use mathlib.Core.Bool.{Bool, true, false, cond}
 use mathlib.Core.List.{List, [], _∷_, _++_, map}
-use Prim.Native.Nat.{ℕ, zero, suc, _+_, _-_, _<_, _≤_, min}
+use Prim.Native.Nat.{ℕ, zero, suc, _+_, _-_, _≤_}
 use native.Mathlib.Omega.{arith}
-use lib.Dec.{leb, ltb}
+use lib.Dec.{ltb}
 use lib.ListN.{length, take, set, length-append, length-take}
 use Rattle.std.specs.Finite.{nth}
 use Rattle.std.specs.shelf.Lists.{All}
 use Rattle.std.proofs.shelf.Elements.{all-push, all-map, all-weaker, all-take}
 use Rattle.std.proofs.shelf.Lists.{length-map}
-use Rattle.std.proofs.shelf.Tests.{cond-both, ltb-true, leb-true, false≢true, true≢false}
+use Rattle.std.proofs.shelf.Tests.{cond-both, ltb-true, false≢true, true≢false}
 use Rattle.std.specs.declared.option.Option.{Option}
 use Rattle.std.specs.declared.option.Option.the-variants.{Some, None}
 use Rattle.faults.specs.declared.SheetFault.{SheetFault}
@@ -21,12 +21,12 @@ use Rattle.items.specs.declared.Entry.{Entry}
 use Rattle.items.specs.declared.Entry.the-variants.{Any, Cell}
 use Rattle.tables.specs.Words.{UpTo, changed}
 use Rattle.results.specs.Results.{Results, Equal}
-use Rattle.tables.specs.Contents.{Contents, Column, Encounter, whole}
-use Rattle.tables.specs.Acceptance.{Acceptable, modeLawful, cellLawful, rowLawful, entryLawful, EntriesLawful}
-use Rattle.tables.specs.Starts.{count, fromStarts}
-use Rattle.tables.specs.Issues.{Issue, shortLists, tooMany, allBarred, shownGap, shownClash, shownAsymmetry, accepted, refused, limit, searched, issue}
+use Rattle.tables.specs.Contents.{Contents, Column, Encounter}
+use Rattle.tables.specs.Acceptance.{Acceptable, modeLawful, cellLawful, rowLawful, EntriesLawful}
+use Rattle.tables.specs.Starts.{count}
+use Rattle.tables.specs.Issues.{Issue, shortLists, tooMany, allBarred, shownGap, shownClash, shownAsymmetry, accepted, refused, limit, issue}
 use Rattle.tables.specs.Calls.{Edit, nameQuantity, addRow, addColumn, addNever, setCell, setDefault, clearDefault, strikeColumn, strikeNever, Call, edit, tryIssue, lookUp, withdraw, Status, draft, issued, Sheet, firstNo, anyOf, withEntries, edited, empty, opened, lawfulAt, asked, unlessRefused, madeBy, after, run, made}
-use Rattle.tables.specs.Storage.{Lists, RightLengths, contentsOf, openedOn, keptAfter, inOrder}
+use Rattle.tables.specs.Storage.{Lists, RightLengths, openedOn, keptAfter, inOrder}
 use Rattle.tables.specs.Faultless.{Faultless}
 use Rattle.tables.specs.Issued.{Says}
 use Rattle.tables.specs.Promises.{EveryRun}
@@ -35,6 +35,7 @@ use Rattle.tables.proofs.Issuing.{issue-says, issued-rightly}
 use Rattle.tables.proofs.Looking.{looked-up-rightly}
 use Rattle.tables.proofs.Storing.{no-refusal, held-rightly}
 use Rattle.tables.proofs.Testing.{in-order}
+use Rattle.tables.proofs.Answering.{answered-for}
 
 module _ {X : Type 0} (n : ℕ) (P : X → Type 0) where
   up-to-push : (xs : List X) (x : X) → ltb (length xs) n ≡ true → P x → UpTo n P xs → UpTo n P (xs ++ (x ∷ []))
@@ -203,10 +204,15 @@ module _ {V C R : Type 0} (m : Meaning V C) (r : Results R) where
     every-run ks =
         let c = made m r ks .contents in
         let h = sound-run opened (empty-acceptable, tt) ks in
+        let first : (l : Lists V C R) → RightLengths l → inOrder m r (keptAfter m r (openedOn l) ks .counts) (keptAfter m r (openedOn l) ks .lists) ≡ true = λ l s.
+        let k = keptAfter m r (openedOn l) ks in
+        let t = held-rightly m r ks l s in
+        in-order m r (k .counts) (k .lists) .1 (t .lengths, subst (Acceptable m r) (sym (t .contents)) (h .0)) in
         record {
           acceptable = h .0;
           held = held-rightly m r ks;
-          firstQuestion = λ l s. let k = keptAfter m r (openedOn l) ks in let t = held-rightly m r ks l s in in-order m r (k .counts) (k .lists) .1 (t .lengths, subst (Acceptable m r) (sym (t .contents)) (h .0));
+          firstQuestion = first;
+          answers = λ l s. let k = keptAfter m r (openedOn l) ks in answered-for m r (k .counts) (k .lists) c (first l s) (held-rightly m r ks l s .contents);
           onward = run-push opened ks;
           issuing = λ lent. issued-rightly m law r eq c (h .0) lent;
           looking = looked-up-rightly m r c;

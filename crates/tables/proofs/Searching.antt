@@ -1,10 +1,9 @@
 -- The search one by one goes through the encounters made of starts in order. Assumes nothing.
-use mathlib.Core.Path.{_≡_, refl, sym, ap, ap₂, subst, _∙_}
+use mathlib.Core.Path.{_≡_, refl, sym, ap, ap₂, _∙_}
 use mathlib.Core.Bool.{Bool, true, false, cond}
 use mathlib.Core.List.{List, [], _∷_, _++_}
-use Prim.Native.Nat.{ℕ, _<_, _≤_}
+use Prim.Native.Nat.{_<_}
 use native.Mathlib.Omega.{arith}
-use lib.ListN.{length}
 use Rattle.std.specs.Options.{mapped, isSome, valueOr}
 use Rattle.std.specs.shelf.Lists.{All}
 use Rattle.std.specs.declared.option.Option.{Option}
@@ -14,7 +13,7 @@ use Rattle.tables.specs.Words.{each, orElse}
 use Rattle.results.specs.Results.{Results}
 use Rattle.tables.specs.Contents.{Contents, Encounter, Place, places, whole, valueOf, putAt}
 use Rattle.tables.specs.Acceptance.{Acceptable}
-use Rattle.tables.specs.Starts.{cellsOf, onward, next, startsOn, choices, reset, nextAt, advance, remaining, turnedAt, turned}
+use Rattle.tables.specs.Starts.{cellsOf, onward, startsOn, choices, reset, nextAt, advance, remaining, turnedAt, turned}
 use Rattle.tables.specs.Bridges.{OneByOne}
 use Rattle.tables.proofs.Lists.{none-some, some-same, nth-some, each-same}
 use Rattle.tables.proofs.Covering.{starts-on}

@@ -1,9 +1,8 @@
 -- What the starts are, in the words of the stops. Assumes nothing.
 use mathlib.Core.Path.{_≡_, refl, sym, ap, subst, _∙_}
-use mathlib.Core.Bool.{true, false, cond}
 use mathlib.Core.Logic.{_⊎_, inl, inr}
 use mathlib.Core.List.{List, [], _∷_}
-use Prim.Native.Nat.{ℕ, _<_, _≤_}
+use Prim.Native.Nat.{_<_, _≤_}
 use native.Mathlib.Omega.{arith}
 use lib.Dec.{leb}
 use Rattle.std.specs.shelf.Lists.{All}
@@ -14,7 +13,7 @@ use Rattle.std.specs.declared.option.Option.the-variants.{Some, None}
 use Rattle.kinds.specs.Meaning.{Meaning, Lawful, earlier}
 use Rattle.tables.specs.Words.{Any}
 use Rattle.tables.specs.Starts.{notAfter, earliest, onward, startsOn}
-use Rattle.tables.specs.Bridges.{EarliestStop, NoStop, StartsGoOn}
+use Rattle.tables.specs.Bridges.{StartsGoOn}
 use Rattle.tables.proofs.Lists.{none-some, some-same}
 use Rattle.tables.proofs.Covering.{starts-on}
 

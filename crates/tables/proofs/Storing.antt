@@ -1,32 +1,29 @@
 -- Each edit does to the contents, through counts and lists, what it is said to do. Assumes nothing.
 use mathlib.Core.Path.{_≡_, refl, sym, ap, ap₂, subst, _∙_}
-use mathlib.Core.Bool.{Bool, true, false, cond, _&&_}
-use mathlib.Core.Logic.{_⊎_, inl, inr}
+use mathlib.Core.Bool.{Bool, true, cond}
+use mathlib.Core.Logic.{inl, inr}
 use mathlib.Core.List.{List, [], _∷_, _++_, map}
 use Prim.Native.Nat.{ℕ, zero, suc, _+_, _*_, _-_, _<_, _≤_}
 use native.Mathlib.Omega.{arith}
 use lib.Dec.{ltb}
-use lib.ListN.{length, getD, take, set, length-take, length-set, length-append}
-use Rattle.std.specs.Finite.{nth}
+use lib.ListN.{length, getD, take, set, length-take, length-set}
 use Rattle.std.specs.Iters.{counting}
 use Rattle.std.specs.shelf.Lists.{All}
 use Rattle.std.proofs.shelf.Counted.{map-counting-more, take-map-counting, length-map-counting}
-use Rattle.std.proofs.shelf.Lists.{take-more-set, take-set-le, take-take, getD-set-same, getD-set-other, getD-past, length-map}
-use Rattle.std.proofs.shelf.Tests.{cond-both, cond-true, cond-false, and-parts, ltb-true, ltb-false, cases-lt, cases-eq}
+use Rattle.std.proofs.shelf.Lists.{take-more-set, take-set-le, take-take, getD-set-same, getD-set-other}
+use Rattle.std.proofs.shelf.Tests.{cond-both, cond-true, cond-false, and-parts, ltb-true, ltb-false, cases-eq}
 use Rattle.std.specs.declared.option.Option.{Option}
 use Rattle.std.specs.declared.option.Option.the-variants.{Some, None}
 use Rattle.faults.specs.declared.SheetFault.{SheetFault}
 use Rattle.kinds.specs.Meaning.{Meaning}
 use Rattle.items.specs.declared.Counts.{Counts}
-use Rattle.items.specs.declared.Quantity.{Quantity}
-use Rattle.items.specs.declared.Row.{Row}
 use Rattle.items.specs.declared.Entry.{Entry}
-use Rattle.items.specs.declared.Entry.the-variants.{Any, Cell}
+use Rattle.items.specs.declared.Entry.the-variants.{Any}
 use Rattle.tables.specs.Words.{changed, Any as Some-of}
 use Rattle.results.specs.Results.{Results}
 use Rattle.tables.specs.Contents.{Contents, Column}
 use Rattle.tables.specs.Calls.{Edit, nameQuantity, addRow, addColumn, addNever, setCell, setDefault, clearDefault, strikeColumn, strikeNever, asked, edited, anyOf, withEntries, Call, edit, tryIssue, lookUp, withdraw, Status, draft, issued, Sheet, opened, firstNo, unlessRefused, madeBy, run}
-use Rattle.tables.specs.Storage.{Lists, Bounded, RightLengths, columnOf, columnsFrom, wiped, rowPlaces, columnPlaces, contentsOf, countsAfter, listsAfter, Kept, openedOn, keptUnless, keptBy, keptAfter}
+use Rattle.tables.specs.Storage.{Lists, Bounded, RightLengths, columnOf, columnsFrom, wiped, rowPlaces, columnPlaces, contentsOf, listsAfter, Kept, openedOn, keptUnless, keptBy, keptAfter}
 use Rattle.tables.specs.Promises.{StoredRightly, HeldRightly}
 use Rattle.tables.proofs.Lists.{none-some, nth-set-same, nth-set-other}
 

@@ -1,12 +1,11 @@
 -- The test of what the draft calls would accept. Assumes nothing.
 use mathlib.Core.Path.{_≡_, refl}
-use mathlib.Core.Bool.{Bool, true, false, _&&_}
+use mathlib.Core.Bool.{Bool, true, _&&_}
 use mathlib.Core.List.{List, [], _∷_}
-use Prim.Native.Nat.{ℕ, _≤_}
+use Prim.Native.Nat.{ℕ}
 use lib.Dec.{leb, eqb}
 use lib.ListN.{length}
 use Rattle.std.specs.Orderings.{Decides}
-use Rattle.std.specs.shelf.Lists.{All}
 use Rattle.std.proofs.shelf.Tests.{leb-true, le-leb, eqb-true, eq-eqb, false≢true}
 use Rattle.std.proofs.shelf.Ways.{decides-and, decides-like, decides-by-and}
 use Rattle.std.specs.declared.option.Option.{Option}

@@ -16,7 +16,7 @@ use Rattle.items.specs.declared.Row.{Row}
 use Rattle.items.specs.declared.Entry.{Entry}
 use Rattle.items.specs.declared.Entry.the-variants.{Any, Cell}
 use Rattle.tables.specs.Words.{UpTo, upTo}
-use Rattle.tables.specs.Contents.{Contents, Column}
+use Rattle.tables.specs.Contents.{Contents}
 
 module _ {V C : Type 0} (m : Meaning V C) where
   -- What the draft calls ask of a quantity, a row and an entry.

@@ -1,9 +1,8 @@
 -- The calls on a sheet, and what a run of them makes. Assumes nothing.
-use mathlib.Core.Path.{_≡_}
-use mathlib.Core.Bool.{Bool, true, false, cond, _&&_, _||_}
+use mathlib.Core.Bool.{Bool, false, cond, _&&_}
 use mathlib.Core.List.{List, [], _∷_, _++_, map}
 use Prim.Native.Nat.{ℕ, _-_}
-use lib.Dec.{leb, ltb}
+use lib.Dec.{ltb}
 use lib.ListN.{length, take, set}
 use Rattle.std.specs.Finite.{nth}
 use Rattle.std.specs.declared.option.Option.{Option}
@@ -15,7 +14,7 @@ use Rattle.faults.specs.declared.SheetFault.the-variants.{TooManyQuantities, Ki
 use Rattle.items.specs.declared.Quantity.{Quantity}
 use Rattle.items.specs.declared.Row.{Row}
 use Rattle.items.specs.declared.Entry.{Entry}
-use Rattle.items.specs.declared.Entry.the-variants.{Any, Cell}
+use Rattle.items.specs.declared.Entry.the-variants.{Any}
 use Rattle.tables.specs.Words.{changed}
 use Rattle.results.specs.Results.{Results}
 use Rattle.tables.specs.Contents.{Contents, Column, Encounter}

@@ -7,6 +7,7 @@ pub mod Issues
 pub mod Lookups
 pub mod Calls
 pub mod Storage
+pub mod Answers
 pub mod Margins
 pub mod Rows
 pub mod Faultless

@@ -11,7 +11,8 @@ use Rattle.tables.specs.Acceptance.{Acceptable}
 use Rattle.tables.specs.Starts.{count}
 use Rattle.tables.specs.Issues.{limit}
 use Rattle.tables.specs.Calls.{Call, made, after, issued, Edit, edited}
-use Rattle.tables.specs.Storage.{Lists, Kept, Bounded, RightLengths, contentsOf, countsAfter, listsAfter, openedOn, keptAfter, inOrder}
+use Rattle.tables.specs.Storage.{Lists, Bounded, RightLengths, contentsOf, countsAfter, listsAfter, openedOn, keptAfter, inOrder}
+use Rattle.tables.specs.Answers.{AnsweredFor}
 use Rattle.tables.specs.Faultless.{Faultless}
 use Rattle.tables.specs.Issued.{IssuedRightly}
 use Rattle.tables.specs.LookedUp.{LookedUpRightly}
@@ -36,6 +37,8 @@ pub record EveryRun {V C R : Type 0} (m : Meaning V C) (r : Results R) (calls : 
   pub held : (l : Lists V C R) → RightLengths l → HeldRightly m r l calls
   -- and the first question of the next call is answered yes
   pub firstQuestion : (l : Lists V C R) → RightLengths l → inOrder m r (keptAfter m r (openedOn l) calls .counts) (keptAfter m r (openedOn l) calls .lists) ≡ true
+  -- so that the calls answer from counts and lists what is said of the contents
+  pub answers : (l : Lists V C R) → RightLengths l → AnsweredFor m r (keptAfter m r (openedOn l) calls .counts) (keptAfter m r (openedOn l) calls .lists) (made m r calls .contents)
   -- one more call does to the sheet what it is said to do
   pub onward : (k : Call V C R) → made m r (calls ++ (k ∷ [])) ≡ after m r k (made m r calls)
   pub issuing : (lent : Encounter V) → IssuedRightly m r (made m r calls .contents) lent

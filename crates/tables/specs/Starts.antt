@@ -13,7 +13,7 @@ use Rattle.items.specs.declared.Entry.{Entry}
 use Rattle.items.specs.declared.Entry.the-variants.{Any, Cell}
 use Rattle.std.specs.Options.{mapped}
 use Rattle.tables.specs.Words.{each, product, orElse}
-use Rattle.tables.specs.Contents.{Contents, Column, Encounter, Place, places, valueOf, putAt}
+use Rattle.tables.specs.Contents.{Contents, Encounter, Place, places, valueOf, putAt}
 
 module _ {C : Type 0} where
   -- the cells among a column's entries in rows that read quantity i

@@ -2,7 +2,7 @@
 use mathlib.Core.Path.{_≡_}
 use mathlib.Core.Bool.{Bool, true, false, cond, _&&_}
 use lib.Dec.{eqb}
-use mathlib.Core.List.{List, [], _∷_, _++_, map}
+use mathlib.Core.List.{List, [], _∷_, map}
 use Prim.Native.Nat.{ℕ, suc, _+_, _*_, _-_, _≤_}
 use lib.ListN.{length, getD, take, set}
 use Rattle.std.specs.Finite.{nth}
@@ -13,7 +13,7 @@ use Rattle.items.specs.declared.Counts.{Counts}
 use Rattle.items.specs.declared.Quantity.{Quantity}
 use Rattle.items.specs.declared.Row.{Row}
 use Rattle.items.specs.declared.Entry.{Entry}
-use Rattle.items.specs.declared.Entry.the-variants.{Any, Cell}
+use Rattle.items.specs.declared.Entry.the-variants.{Any}
 use Rattle.faults.specs.declared.SheetFault.{SheetFault}
 use Rattle.kinds.specs.Meaning.{Meaning}
 use Rattle.results.specs.Results.{Results}
