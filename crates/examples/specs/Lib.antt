@@ -1,0 +1,4 @@
+pub mod Writing
+pub mod Sheets
+pub mod Runs
+pub mod Worked
