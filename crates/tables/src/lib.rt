@@ -16,7 +16,7 @@ ghost use Rattle.tables.specs.Edits.{EditedRightly};
 ghost use Rattle.tables.specs.Issued.{IssuedRightly};
 ghost use Rattle.tables.specs.LookedUp.{LookedUpRightly};
 ghost use Rattle.tables.specs.Margins.{MarginsMean};
-ghost use Rattle.tables.specs.Promises.{StoredRightly, EveryRun};
+ghost use Rattle.tables.specs.Promises.{Makeable, StoredRightly, EveryRun};
 ghost use Rattle.tables.specs.Rows.{ReadRightly};
 ghost use Rattle.tables.specs.Storage.{Lists, Bounded, RightLengths, contentsOf, inOrder};
 use kinds::Kind;
@@ -78,10 +78,12 @@ pub fn edits_are_stored_rightly<K: Kind, R: ResultKind>() -> u8
     0
 }
 
-// The first question of every call, as a test of contents, and of counts and lists.
+// The first question of every call, as a test of contents, and of counts and lists. What it
+// accepts is just what calls can make.
 pub fn first_question_is_decided<K: Kind, R: ResultKind>() -> u8
     ensures contents { λ _. ⌜ ((c : Contents K·Value K·Cell R) → Decides (acceptable (K·Kind .meaning) (R·ResultKind .results) c) (Acceptable (K·Kind .meaning) (R·ResultKind .results) c)) ⌝ }
     ensures lists { λ _. ⌜ ((n : Counts) (l : Lists K·Value K·Cell R) → Decides (inOrder (K·Kind .meaning) (R·ResultKind .results) n l) (RightLengths l × Acceptable (K·Kind .meaning) (R·ResultKind .results) (contentsOf n l))) ⌝ }
+    ensures makeable { λ _. ⌜ ((c : Contents K·Value K·Cell R) → Acceptable (K·Kind .meaning) (R·ResultKind .results) c → Makeable (K·Kind .meaning) (R·ResultKind .results) c) ⌝ }
 {
     0
 }
