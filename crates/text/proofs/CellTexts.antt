@@ -473,7 +473,7 @@ cell-back (Right (Right c)) r =
     let a = c .start in let b = c .end in
     let p = and-parts (ltb a 1440) (ltb b 1440) r in
     let h : a < 1440 = ltb-true _ _ (p .0) in
-    let x : ℕ = 48 + a / 60 / 10 in
+    let x : ℕ = 48 + a / 60 / 10 % 10 in
     let y : x < 60 = omega arith in
     cond-false _ _ _ (ne-eqb x 33 (λ e. omega arith)) ∙ cond-false _ _ _ (ne-eqb x 123 (λ e. omega arith)) ∙ window-back a b (p .0) (p .1)
 

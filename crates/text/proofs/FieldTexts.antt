@@ -191,9 +191,9 @@ minutes-some None None t e = let q : _≡_ {A = ℕ} 0 1 = cc in absurd (omega a
 -- two digits and their value
 two-back : (n : ℕ) → n < 100 → figures (twoDigits n) ≡ Some n
 two-back n h =
-    let a : 48 + n / 10 ≤ 57 = omega arith in
+    let a : 48 + n / 10 % 10 ≤ 57 = omega arith in
     let b : 48 + n % 10 ≤ 57 = omega arith in
-    let d : allDigits (twoDigits n) ≡ true = and-from _ _ (and-from _ _ (le-leb 48 (48 + n / 10) (omega arith)) (le-leb _ _ a)) (and-from _ _ (and-from _ _ (le-leb 48 (48 + n % 10) (omega arith)) (le-leb _ _ b)) refl) in
+    let d : allDigits (twoDigits n) ≡ true = and-from _ _ (and-from _ _ (le-leb 48 (48 + n / 10 % 10) (omega arith)) (le-leb _ _ a)) (and-from _ _ (and-from _ _ (le-leb 48 (48 + n % 10) (omega arith)) (le-leb _ _ b)) refl) in
     cond-true _ _ _ d ∙ ap Some (omega arith)
 
 two-same : (x y n : ℕ) → figures (x ∷ (y ∷ [])) ≡ Some n → (twoDigits n ≡ x ∷ (y ∷ [])) × (32 < x) × (32 < y)
@@ -203,7 +203,7 @@ two-same x y n e =
     let px : (48 ≤ x) × (x ≤ 57) = grind (arith, tells) in
     let py : (48 ≤ y) × (y ≤ 57) = grind (arith, tells) in
     let v : (0 * 10 + (x - 48)) * 10 + (y - 48) ≡ n = f .1 in
-    let hx : 48 + n / 10 ≡ x = omega arith in
+    let hx : 48 + n / 10 % 10 ≡ x = omega arith in
     let hy : 48 + n % 10 ≡ y = omega arith in
     (cc, omega arith, omega arith)
 

@@ -38,8 +38,9 @@ abbrev pub sevenDigits : ℤ → Bool
 sevenDigits (pos n) = ltb n 10000000
 sevenDigits (negsuc n) = ltb n 9999999
 
+-- the last two digits of a number
 abbrev pub twoDigits : ℕ → List ℕ
-twoDigits n = (48 + n / 10) ∷ ((48 + n % 10) ∷ [])
+twoDigits n = (48 + n / 10 % 10) ∷ ((48 + n % 10) ∷ [])
 
 -- a minute of the day, as `22:00`
 abbrev pub timeText : ℕ → List ℕ
@@ -188,6 +189,9 @@ fieldsOf (sayDefault x) = signed (x .value) ∷ []
 abbrev pub lineBody : Said → List ℕ
 lineBody x = rejoined 32 (wordText (wordOf x) ∷ fieldsOf x)
 
+abbrev pub lineText : Said → List ℕ
+lineText x = lineBody x ++ (10 ∷ [])
+
 -- entries with their places, the first at byte `at`
 abbrev pub placedFrom : ℕ → List (Entry Cell) → List Placed
 placedFrom at [] = []
@@ -219,4 +223,4 @@ Ordered s n (x ∷ xs) = (allowed s (wordOf x) ≡ Some (sectionOf (wordOf x))) 
 
 -- the text of a page: its lines, and then `end`
 abbrev pub pageText : List Said → List ℕ
-pageText xs = joined (λ x. lineBody x ++ (10 ∷ [])) xs ++ codes "end\n"
+pageText xs = joined lineText xs ++ codes "end\n"
