@@ -1,7 +1,7 @@
 -- Bytes written one after another.
 use mathlib.Core.Path.{_≡_, refl, sym, ap, subst, _∙_}
 use mathlib.Core.List.{List, [], _∷_, _++_, map}
-use mathlib.Core.Bool.{Bool, true, false, cond}
+use mathlib.Core.Bool.{Bool, true, false, cond, not}
 use mathlib.Core.Logic.{⊎-elim}
 use Prim.Native.Nat.{ℕ, zero, suc, _+_, _-_, _/_, _%_, _^_, _≤_, _<_}
 use native.Mathlib.Omega.{arith}
@@ -198,11 +198,19 @@ marked-in {w} {u} inside lo hi t a = subst (λ b. Wrote w (markedText b lo hi) u
 pub marked-out : {w v u : Writer} (inside : Bool) (lo hi : ℤ) → inside ≡ false → Wrote w (33 ∷ []) v → Wrote v (bandText lo hi) u → Wrote w (markedText inside lo hi) u
 marked-out {w} {v} {u} inside lo hi t a b = subst (λ m. Wrote w (markedText m lo hi) u) (sym t) (wrote-more a b)
 
+off : (b : Bool) → true ≡ not b → b ≡ false
+off true e = e
+off false e = refl
+
+on : (b : Bool) → false ≡ not b → b ≡ true
+on true e = refl
+on false e = e
+
 -- a text that is counted from the front of a buffer and then written there: where it fits, it stands
 -- at the front, and the bytes after it are as they were
-pub walked : {w v q u : Writer} (text : List ℕ) → Fresh false w → Wrote w text v → v .full ≡ false → Fresh true q → buffer q ≡ buffer v → Wrote q text u → (u .at ≡ length text) × (length text ≤ length (buffer w)) × (buffer u ≡ text ++ drop (length text) (buffer w))
+pub walked : {w v q u : Writer} (text : List ℕ) → Fresh false w → Wrote w text v → true ≡ not (v .full) → Fresh true q → buffer q ≡ buffer v → Wrote q text u → (u .at ≡ length text) × (length text ≤ length (buffer w)) × (buffer u ≡ text ++ drop (length text) (buffer w))
 walked {w} {v} {q} {u} text f a t g e b =
-    let l = measured-fits text f a t in
+    let l = measured-fits text f a (off (v .full) t) in
     let start = g .front in
     let d : buffer q ≡ buffer w = e ∙ a .dry (f .live) in
     let size : length (buffer q) ≡ length (buffer w) = ap length d in
@@ -214,5 +222,5 @@ walked {w} {v} {q} {u} text f a t g e b =
     )
 
 -- and where it does not fit, nothing is written
-pub walked-over : {w v : Writer} (text : List ℕ) → Fresh false w → Wrote w text v → v .full ≡ true → (length (buffer w) < length text) × (buffer v ≡ buffer w)
-walked-over text f a t = (measured-over text f a t, a .dry (f .live))
+pub walked-over : {w v : Writer} (q : Writer) (text : List ℕ) → Fresh false w → Wrote w text v → false ≡ not (v .full) → buffer q ≡ buffer v → (length (buffer w) < length text) × (buffer q ≡ buffer w)
+walked-over {w} {v} q text f a t e = (measured-over text f a (on (v .full) t), e ∙ a .dry (f .live))

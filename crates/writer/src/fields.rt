@@ -3,6 +3,7 @@ ghost use mathlib.Core.Path.{_≡_};
 ghost use mathlib.Core.Bool.{true, false, cond};
 ghost use mathlib.Core.List.{[], _∷_, map};
 ghost use Prim.Native.Nat.{_+_, _%_};
+ghost use denote.Ref.{name as lender};
 ghost use Rattle.std.specs.Written.{decimal, signed};
 ghost use Rattle.joined.specs.declared.Either.the-variants.{Right};
 ghost use Rattle.text.specs.Fields.{rejoined};
@@ -20,7 +21,9 @@ use names::NameSet;
 impl<'a> Writer<'a> {
     // A writer that counts, from the front of a buffer.
     pub fn new(out: &'a mut [u8]) -> Self
-        ensures { λ r. ⌜ Fresh false r ⌝ ∗ ⌜ buffer r ≡ now (out .entry) ⌝ }
+        ensures fresh { λ r. ⌜ Fresh false r ⌝ }
+        ensures kept { λ r. ⌜ buffer r ≡ now (out .entry) ⌝ }
+        ensures lender { λ r. ⌜ lender (r .out) ≡ lender (out .entry) ⌝ }
     {
         Writer {
             out,
