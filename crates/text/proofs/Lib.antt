@@ -6,4 +6,5 @@ pub mod LineSteps
 pub mod FieldTexts
 pub mod CellTexts
 pub mod PageTexts
+pub mod Lengths
 pub mod LineTexts

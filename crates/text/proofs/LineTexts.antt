@@ -38,6 +38,7 @@ use Rattle.text.specs.declared.types.RowLine.{RowLine}
 use Rattle.text.specs.declared.types.Placed.{Placed}
 use Rattle.text.proofs.Parts.{whole, apart, Free, free-low}
 use Rattle.text.proofs.FieldTexts.{some-under, numbers, measures, times, modes-faithful, kinds-faithful, words-faithful, values, kind-of}
+use Rattle.text.proofs.Lengths.{lines-short}
 use Rattle.text.proofs.CellTexts.{entries-faithful}
 use Rattle.text.proofs.PageTexts.{Ended, under-err, lined-back, lined-same, ended-joined, page-opens, page-parts}
 
@@ -373,4 +374,5 @@ text-faithful = record {
   line = record { back = line-back; same = line-same; bare = line-bare };
   lines = record { back = lines-back; same = lines-same };
   pages = record { back = page-back; same = page-same };
+  short = lines-short;
 }

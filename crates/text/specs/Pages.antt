@@ -1,4 +1,4 @@
--- The pages of lines: where a page is refused, and what its lines say.
+-- Pages of lines: where a page is refused, and what its lines say. Assumes nothing.
 use mathlib.Core.List.{List, [], _∷_}
 use mathlib.Core.Bool.{Bool, cond, _&&_, _||_}
 use Prim.Native.Nat.{ℕ, _+_, _-_}
@@ -45,6 +45,7 @@ abbrev pub inSection : ℕ → Word → Option Section → Result (Word × Secti
 inSection k w (Some t) = Ok (w, t)
 inSection k w None = Err (wrongWord k)
 
+-- the word of line `k`, and the section after it
 abbrev pub wordAt : Section → ℕ → Option Word → Result (Word × Section) Refused
 wordAt s k None = Err (wrongWord k)
 wordAt s k (Some w) = inSection k w (allowed s w)

@@ -1,9 +1,9 @@
 -- What is promised of the text of a page: what is written reads back, and what was read is written
--- back, byte for byte.
+-- back, byte for byte. Assumes nothing.
 use mathlib.Core.List.{List, [], _∷_, map}
 use mathlib.Core.Bool.{Bool, true}
 use mathlib.Core.Path.{_≡_}
-use Prim.Native.Nat.{ℕ, _<_, _≤_}
+use Prim.Native.Nat.{ℕ, _+_, _<_, _≤_}
 use lib.Dec.{ltb}
 use lib.IntN.{ℤ}
 use lib.ListN.{length}
@@ -20,7 +20,7 @@ use Rattle.text.specs.Words.{mode, kind, value, firstWord}
 use Rattle.text.specs.Cells.{entry}
 use Rattle.text.specs.Lines.{Line, lineOf}
 use Rattle.text.specs.Pages.{linesOf, pageOf}
-use Rattle.text.specs.Texts.{sevenDigits, timeText, modeText, kindText, wordText, valueRight, valueText, entryRight, entryText, Said, said, wordOf, fieldsOf, lineBody, locatedAt, located, LineRight, Ordered, pageText}
+use Rattle.text.specs.Texts.{sevenDigits, timeText, modeText, kindText, wordText, valueRight, valueText, entryRight, entryText, Said, said, wordOf, fieldsOf, lineBody, lineText, room, rooms, locatedAt, located, LineRight, Ordered, pageText}
 use Rattle.text.specs.declared.types.KindWord.{KindWord}
 use Rattle.text.specs.declared.types.Word.{Word}
 use Rattle.text.specs.declared.types.Section.{Section}
@@ -51,6 +51,7 @@ valueForm k = record { right = valueRight k; text = valueText; read = value k }
 abbrev pub entryForm : Form (Entry Cell)
 entryForm = record { right = entryRight; text = entryText; read = entry }
 
+-- every form of field
 pub record Fields-faithful : Type 0 where
   pub numbers : Faithful numberForm
   pub measures : Faithful measureForm
@@ -82,9 +83,16 @@ pub record Pages-faithful : Type 0 where
   pub back : (xs : List Said) → Ordered Quantities 0 xs → length (pageText xs) ≤ 65536 → pageOf (pageText xs) ≡ Ok (map located xs)
   pub same : (page : List ℕ) (ys : List Line) → pageOf page ≡ Ok ys → Ordered Quantities 0 (map said ys) × (pageText (map said ys) ≡ page)
 
+-- a line and a page are no longer than this, so that the page of any sheet can be read
+pub record Lines-short : Type 0 where
+  pub line : (n : ℕ) (x : Said) → LineRight n x → length (lineText x) ≤ room x
+  pub page : (s : Section) (n : ℕ) (xs : List Said) → Ordered s n xs → length (pageText xs) ≤ rooms xs + 4
+
+-- all of it
 pub record Text-faithful : Type 0 where
   pub fields : Fields-faithful
   pub parts : Parts-faithful
   pub line : Line-faithful
   pub lines : Lines-faithful
   pub pages : Pages-faithful
+  pub short : Lines-short

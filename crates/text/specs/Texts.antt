@@ -1,5 +1,5 @@
 -- What is written of each value, entry and line, and of a page of lines. The fields of a line are
--- parted by single spaces, and a line ends in byte 10.
+-- parted by single spaces, and a line ends in byte 10. Assumes nothing.
 use mathlib.Core.List.{List, [], _∷_, _++_, map}
 use mathlib.Core.Bool.{Bool, true, false, cond, _&&_}
 use mathlib.Core.Path.{_≡_}
@@ -46,6 +46,7 @@ twoDigits n = (48 + n / 10 % 10) ∷ ((48 + n % 10) ∷ [])
 abbrev pub timeText : ℕ → List ℕ
 timeText t = twoDigits (t / 60) ++ (58 ∷ twoDigits (t % 60))
 
+-- the words for modes, for kinds and for lines
 abbrev pub modeText : Mode → List ℕ
 modeText A = codes "A"
 modeText B = codes "B"
@@ -113,6 +114,7 @@ namesText bits = 123 ∷ (rejoined 44 (map decimal (namesIn 32 0 bits)) ++ (125 
 abbrev pub windowText : ℕ → ℕ → List ℕ
 windowText start end = timeText start ++ (45 ∷ timeText end)
 
+-- a cell
 abbrev pub cellText : Cell → List ℕ
 cellText (Left b) = markedText (b .inside) (b .lo) (b .hi)
 cellText (Right (Left s)) = namesText (s .bits)
@@ -129,6 +131,7 @@ abbrev pub entryText : Entry Cell → List ℕ
 entryText Any = codes "."
 entryText (CellE c) = cellText c
 
+-- an entry that a page can have
 abbrev pub entryRight : Entry Cell → Bool
 entryRight Any = true
 entryRight (CellE c) = cellRight c
@@ -137,6 +140,7 @@ entryRight (CellE c) = cellRight c
 abbrev pub quantityFields : Quantity Value → List (List ℕ)
 quantityFields q = kindText (kindOf (q .least)) ∷ (valueText (q .least) ∷ (valueText (q .greatest) ∷ []))
 
+-- a quantity that a page can have: both values are of one kind
 abbrev pub quantityRight : Quantity Value → Bool
 quantityRight q = valueRight (kindOf (q .least)) (q .least) && valueRight (kindOf (q .least)) (q .greatest)
 
@@ -144,6 +148,7 @@ quantityRight q = valueRight (kindOf (q .least)) (q .least) && valueRight (kindO
 abbrev pub rowFields : Row → List (List ℕ)
 rowFields r = decimal (r .quantity) ∷ (modeText (r .mode) ∷ [])
 
+-- a row that a page can have
 abbrev pub rowRight : Row → Bool
 rowRight r = ltb (r .quantity) 10000000
 
@@ -159,6 +164,7 @@ pub data Said : Type 0 where
 abbrev pub unplaced : List Placed → List (Entry Cell)
 unplaced ps = map (λ p. p .entry) ps
 
+-- what a line says, without the places
 abbrev pub said : Line → Said
 said (quantityLine q) = sayQuantity (q .quantity)
 said (rowLine r) = sayRow (r .row)
@@ -166,11 +172,12 @@ said (columnLine x ps) = sayColumn x (unplaced ps)
 said (neverLine ps) = sayNever (unplaced ps)
 said (defaultLine x) = sayDefault x
 
+-- the first word of a quantity's line
 abbrev pub scopeWord : Scope → Word
 scopeWord FlightS = Flight
 scopeWord PairS = PairW
 
--- the first word of a line, and its other fields
+-- the first word of a line
 abbrev pub wordOf : Said → Word
 wordOf (sayQuantity q) = scopeWord (q .scope)
 wordOf (sayRow r) = RowW
@@ -178,6 +185,7 @@ wordOf (sayColumn x es) = Column
 wordOf (sayNever es) = Never
 wordOf (sayDefault x) = Default
 
+-- its other fields
 abbrev pub fieldsOf : Said → List (List ℕ)
 fieldsOf (sayQuantity q) = quantityFields q
 fieldsOf (sayRow r) = rowFields r
@@ -189,6 +197,7 @@ fieldsOf (sayDefault x) = signed (x .value) ∷ []
 abbrev pub lineBody : Said → List ℕ
 lineBody x = rejoined 32 (wordText (wordOf x) ∷ fieldsOf x)
 
+-- the bytes of a line
 abbrev pub lineText : Said → List ℕ
 lineText x = lineBody x ++ (10 ∷ [])
 
@@ -205,6 +214,7 @@ locatedAt at (sayColumn x es) = columnLine x (placedFrom (restAt at (signed (x .
 locatedAt at (sayNever es) = neverLine (placedFrom at es)
 locatedAt at (sayDefault x) = defaultLine x
 
+-- a line with the places of its fields
 abbrev pub located : Said → Line
 located x = locatedAt (restAt 1 (wordText (wordOf x) ∷ fieldsOf x)) x
 
@@ -224,3 +234,16 @@ Ordered s n (x ∷ xs) = (allowed s (wordOf x) ≡ Some (sectionOf (wordOf x))) 
 -- the text of a page: its lines, and then `end`
 abbrev pub pageText : List Said → List ℕ
 pageText xs = joined lineText xs ++ codes "end\n"
+
+-- how many bytes a line has at most, with its byte 10
+abbrev pub room : Said → ℕ
+room (sayQuantity q) = 33
+room (sayRow r) = 19
+room (sayColumn x es) = 1600
+room (sayNever es) = 1590
+room (sayDefault x) = 17
+
+-- how many bytes lines have at most
+abbrev pub rooms : List Said → ℕ
+rooms [] = 0
+rooms (x ∷ xs) = room x + rooms xs

@@ -1,4 +1,4 @@
--- What a writer does with bytes.
+-- What a writer does with bytes. Assumes nothing.
 use mathlib.Core.List.{List, [], _∷_, _++_}
 use mathlib.Core.Bool.{Bool, true, false, cond}
 use mathlib.Core.Path.{_≡_}
@@ -15,6 +15,7 @@ use Rattle.writer.specs.declared.buffer.Writer.{Writer}
 abbrev pub putAt : ℕ → List ℕ → List ℕ → List ℕ
 putAt at bs out = take at out ++ (bs ++ drop (at + length bs) out)
 
+-- the buffer that a writer holds
 abbrev pub buffer : Writer → List ℕ
 buffer w = now (w .out)
 
@@ -46,5 +47,6 @@ Written text before (Err e) after = (length before < length text) × (after ≡ 
 abbrev pub nameText : Bool → ℕ → ℕ → List ℕ
 nameText some n left = cond (eqb (left % 2) 1) (cond some (44 ∷ decimal n) (decimal n)) []
 
+-- whether some names are written after this one
 abbrev pub someAfter : Bool → ℕ → Bool
 someAfter some left = cond (eqb (left % 2) 1) true some
