@@ -1,18 +1,19 @@
-use Prim.Native.Nat.{ℕ, _*_, _/_, _≤_}
-use native.Mathlib.Nat.{mul-div-le, mul-le-mul-left}
+use Prim.Native.Nat.{_≤_}
 use native.Mathlib.Omega.{arith}
+use Rattle.lists.specs.Held.{seen}
+use Rattle.starts.specs.Counted.{startsOf}
+use Rattle.starts.proofs.Counting.{passed, kept}
 use Rattle.starts.proofs.count.times_starts.Needs as need
 
--- a number of times that a product goes into the limit
-within : (limit p n : ℕ) → n ≤ limit / p → p * n ≤ limit
-within limit p n h =
-    let a : p * n ≤ p * (limit / p) = mul-le-mul-left p h in
-    let b : p * (limit / p) ≤ limit = mul-div-le limit p in
-    omega arith
+pub returns-then-n-most : need.returns-then-n-most
+returns-then-n-most g c =
+    let some : 1 ≤ c .args .product = omega arith in
+    passed (c .args .product) (startsOf (g .K·Kind .meaning) (seen (c .args .view .now)) (c .args .i) (c .args .least) (c .args .greatest)) (c .starts-up-to-n .result) some (c .starts-up-to-n .ensures) (c .if-n-most .taken)
 
 pub mul-result : need.mul-result
 mul-result g c =
-    let h = within 1048576 (c .args .product) (c .starts-up-to-n .result) (c .if-n-product .left) in omega arith
+    omega (arith, kept (c .args .product) (startsOf (g .K·Kind .meaning) (seen (c .args .view .now)) (c .args .i) (c .args .least) (c .args .greatest)) (c .starts-up-to-n .result) (c .starts-up-to-n .ensures) (c .if-n-most .left) .0)
 
 pub returns : need.returns
-returns g c = within 1048576 (c .args .product) (c .starts-up-to-n .result) (c .if-n-product .left)
+returns g c =
+    kept (c .args .product) (startsOf (g .K·Kind .meaning) (seen (c .args .view .now)) (c .args .i) (c .args .least) (c .args .greatest)) (c .starts-up-to-n .result) (c .starts-up-to-n .ensures) (c .if-n-most .left) .1
