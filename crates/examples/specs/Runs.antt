@@ -1,11 +1,14 @@
--- A run of calls that makes the vertical sheet, and edits that are refused. Assumes nothing.
+-- A run of calls that makes the vertical sheet, edits that are refused, and contents that no edits make. Assumes nothing.
 use mathlib.Core.List.{List, [], _∷_}
+use lib.ListN.{replicate}
+use Rattle.std.specs.declared.option.Option.the-variants.{Some, None}
 use Rattle.house.specs.House.{Value, Cell}
 use Rattle.results.specs.declared.figure.Figure.{Figure}
 use Rattle.items.specs.declared.Scope.the-variants.{Flight}
 use Rattle.items.specs.declared.Mode.the-variants.{A, B, Pair}
 use Rattle.tables.specs.Calls.{Edit, nameQuantity, addRow, addColumn, addNever, setCell, setDefault, strikeNever, Call, edit, tryIssue, withdraw}
-use Rattle.examples.specs.Writing.{figure, level, band, name1, any, row, levels, yesOrNo, lent}
+use Rattle.tables.specs.Storage.{Lists}
+use Rattle.examples.specs.Writing.{Page, figure, level, band, name1, any, row, column, levels, yesOrNo, lent}
 
 abbrev pub HouseCall : Type 0
 HouseCall = Call Value Cell Figure
@@ -35,3 +38,23 @@ wrongEdits = nameQuantity (record { scope = Flight; least = level 5; greatest = 
 -- edits of a full sheet
 abbrev pub edits : List (Edit Value Cell Figure)
 edits = nameQuantity (yesOrNo Flight) ∷ addRow (row 0 A) ∷ addColumn (figure 1) ∷ addNever ∷ []
+
+-- four lists of right length with nothing in them
+abbrev pub blank : Lists Value Cell Figure
+blank = record {
+  quantities = replicate 16 (yesOrNo Flight);
+  rows = replicate 16 (row 0 A);
+  entries = replicate 384 any;
+  results = replicate 17 (figure 0);
+}
+
+-- no range, no quantity, a wrong mode, a cell of another kind, an entry too few, an unlawful result, a never with an entry too many, an unlawful default
+abbrev pub wrongPages : List Page
+wrongPages = record { quantities = record { scope = Flight; least = level 5; greatest = level 4 } ∷ []; rows = []; columns = []; nevers = []; default = None }
+    ∷ record { quantities = []; rows = row 0 A ∷ []; columns = []; nevers = []; default = None }
+    ∷ record { quantities = yesOrNo Flight ∷ []; rows = row 0 Pair ∷ []; columns = []; nevers = []; default = None }
+    ∷ record { quantities = yesOrNo Flight ∷ []; rows = row 0 A ∷ []; columns = column 1 (band 0 1 ∷ []) ∷ []; nevers = []; default = None }
+    ∷ record { quantities = yesOrNo Flight ∷ []; rows = row 0 A ∷ []; columns = column 1 [] ∷ []; nevers = []; default = None }
+    ∷ record { quantities = []; rows = []; columns = column 1000001 [] ∷ []; nevers = []; default = None }
+    ∷ record { quantities = []; rows = []; columns = []; nevers = (any ∷ []) ∷ []; default = None }
+    ∷ record { quantities = []; rows = []; columns = []; nevers = []; default = Some (figure 1000001) } ∷ []

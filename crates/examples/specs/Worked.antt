@@ -2,7 +2,8 @@
 use mathlib.Core.Path.{_≡_}
 use mathlib.Core.Bool.{true, false, not}
 use mathlib.Core.List.{List, [], _∷_, _++_, map}
-use Prim.Native.Nat.{ℕ, _^_}
+use Prim.Native.Nat.{ℕ, _+_, _*_, _^_}
+use lib.ListN.{getD, take, replicate}
 use lib.IntN.{ℤ, pos, negsuc}
 use Rattle.std.specs.Iters.{counting}
 use Rattle.std.specs.declared.option.Option.{Option}
@@ -25,10 +26,12 @@ use Rattle.tables.specs.Starts.{count, starts}
 use Rattle.tables.specs.Issues.{Issue, tooMany, shownGap, shownClash, shownAsymmetry, accepted, answered, issue}
 use Rattle.tables.specs.Lookups.{told, lookUp}
 use Rattle.tables.specs.Calls.{Edit, draft, issued, firstNo, asked, made}
+use Rattle.tables.specs.Acceptance.{acceptable}
+use Rattle.tables.specs.Storage.{Lists, openedOn, keptAfter}
 use Rattle.tables.specs.Margins.{verticalMargin, lateralMargin, sameMargin, oppositeMargin, separated}
-use Rattle.examples.specs.Writing.{Page, figure, level, name, minute, window, filled, flights, lent, faultNumber, number}
+use Rattle.examples.specs.Writing.{Page, figure, level, name, minute, any, name1, window, filled, flights, lent, faultNumber, number}
 use Rattle.examples.specs.Sheets.{vertical, verticalSheet, sameDirection, many, noQuantities, neverForA, levelOfA, twoRows, bothOrBoth, alwaysMet, neverFlown, full}
-use Rattle.examples.specs.Runs.{verticalCalls, callsAfter, wrongEdits, edits}
+use Rattle.examples.specs.Runs.{verticalCalls, callsAfter, wrongEdits, edits, blank, wrongPages}
 
 -- what issue finds for a sheet, and what look-up tells of the vertical sheet
 abbrev found : Page → Issue Value
@@ -40,6 +43,10 @@ looked a b = told (lookUp house figures verticalSheet (flights a b))
 -- the numbers with which edits of a sheet are refused
 abbrev refusals : Page → List (Edit Value Cell Figure) → List (Option ℕ)
 refusals page ks = map (λ k. faultNumber (firstNo (asked house figures k page))) ks
+
+-- the four lists after the calls that make the vertical sheet
+abbrev left : Lists Value Cell Figure
+left = keptAfter house figures (openedOn blank) verticalCalls .lists
 
 -- the margin at t with the passing time 10:00 and the period from 15 minutes before it to 15 after
 abbrev margin : ℕ → ℤ
@@ -88,6 +95,13 @@ pub record Worked : Type 0 where
   pub refusedCallsChangeNothing : made house figures (verticalCalls ++ callsAfter) ≡ record { status = draft; contents = verticalSheet }
   pub wrongEditsAreRefused : refusals verticalSheet wrongEdits ≡ Some 3 ∷ Some 5 ∷ Some 6 ∷ Some 9 ∷ Some 9 ∷ Some 10 ∷ Some 10 ∷ Some 10 ∷ Some 11 ∷ None ∷ Some 12 ∷ []
   pub fullSheetsTakeNoMore : refusals full edits ≡ Some 2 ∷ Some 4 ∷ Some 7 ∷ Some 8 ∷ []
+  -- what the calls leave in the four lists: row 3 of column 3, and the default last
+  pub cellIsKeptByRow : getD (left .entries) (24 * 3 + 3) any ≡ name1
+  pub resultsAreKeptInOrder : take 4 (left .results) ≡ figure 1000 ∷ figure 1000 ∷ figure 4000 ∷ figure 4000 ∷ []
+  pub defaultIsKeptLast : getD (left .results) 16 (figure 0) ≡ figure 2000
+  -- contents that no edits make
+  pub fullIsAcceptable : acceptable house figures full ≡ true
+  pub wrongPagesAreNot : map (acceptable house figures) wrongPages ≡ replicate 8 false
   -- the window from 06:00 to 05:59
   pub wholeDayAlwaysHolds : allOf (λ t. house .holds (window 360 359) (minute t)) (counting 0 1440) ≡ true
   pub wholeDayStillStops : house .stop (window 360 359) (minute 0) ≡ Some (minute 360)

@@ -1,4 +1,4 @@
--- What a reader has before it.
+-- What a reader has before it. Assumes nothing.
 use mathlib.Core.List.{List}
 use Prim.Native.Nat.{ℕ, _+_}
 use denote.Ref.{now}

@@ -174,10 +174,10 @@ impl<'a> Fields<'a> {
     pub fn done(&self) -> Result<(), usize>
         ensures { λ r. ⌜ r ≡ none tt (byteOf (now (self .entry))) (left (now (self .entry))) ⌝ }
     {
-        if self.at > self.line.len() {
+        if self.line.len() < self.at {
             Ok(())
         } else {
-            Err(self.at + 1)
+            Err(self.byte())
         }
     }
 }

@@ -1,8 +1,18 @@
 -- What the lists of a call hold, by the definitions of a sheet. Assumes nothing.
 use denote.Ref.{now, name}
 use mathlib.Core.Path.{_≡_}
+use mathlib.Core.Bool.{Bool, true, false, cond}
+use Rattle.std.specs.declared.result.Result.{Result}
+use Rattle.std.specs.declared.result.Result.the-variants.{Ok, Err}
+use Rattle.std.specs.declared.option.Option.{Option}
+use Rattle.std.specs.declared.option.Option.the-variants.{Some, None}
+use Rattle.faults.specs.declared.SheetFault.{SheetFault}
+use Rattle.faults.specs.declared.SheetFault.the-variants.{Lists as WrongLists}
+use Rattle.items.specs.declared.Counts.{Counts}
+use Rattle.kinds.specs.Meaning.{Meaning}
+use Rattle.results.specs.Results.{Results}
 use Rattle.tables.specs.Contents.{Contents, Encounter}
-use Rattle.tables.specs.Storage.{Lists, contentsOf}
+use Rattle.tables.specs.Storage.{Lists, contentsOf, inOrder, rightLengths}
 use Rattle.lists.specs.declared.lent.Lists.{Lists as LentLists}
 use Rattle.lists.specs.declared.lent.Encounter.{Encounter as LentEncounter}
 use Rattle.lists.specs.declared.lent.Showing.{Showing}
@@ -39,3 +49,18 @@ pub record SameShowing {V : Type 0} (before after : Showing V) : Type 0 where
   pub a : name (after .a) ≡ name (before .a)
   pub b : name (after .b) ≡ name (before .b)
   pub pair : name (after .pair) ≡ name (before .pair)
+
+module _ {K R V C : Type 0} where
+  -- a view of lists of right length
+  abbrev pub Looked : Counts → LentLists K R V C → Option (View K R V C) → Type 0
+  Looked n l (Some v) = (v .counts ≡ n) × (viewed v ≡ listsOf l) × (rightLengths (listsOf l) ≡ true)
+  Looked n l None = rightLengths (listsOf l) ≡ false
+
+  -- what the first question answers: a view of what the lists hold, or a refusal
+  abbrev pub FirstAnswer : Meaning V C → Results R → Counts → LentLists K R V C → Result (View K R V C) SheetFault → Type 0
+  FirstAnswer m r n l (Ok v) = (v .counts ≡ n) × (viewed v ≡ listsOf l) × (inOrder m r n (listsOf l) ≡ true)
+  FirstAnswer m r n l (Err f) = (f ≡ WrongLists) × (inOrder m r n (listsOf l) ≡ false)
+
+  -- the same without the view
+  abbrev pub firstAnswer : Meaning V C → Results R → Counts → LentLists K R V C → Result (Unit {0}) SheetFault
+  firstAnswer m r n l = cond (inOrder m r n (listsOf l)) (Ok tt) (Err WrongLists)

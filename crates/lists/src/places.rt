@@ -1,5 +1,5 @@
 // Reading and writing at a place of a list that may be too short for it.
-ghost use lib.ListN.{set};
+ghost use lib.ListN.{set, take};
 ghost use mathlib.Core.Path.{_≡_};
 ghost use Rattle.std.specs.Finite.{nth as nthOf};
 
@@ -20,5 +20,16 @@ pub fn put<T: Copy>(items: &mut [T], i: usize, item: T)
 {
     if i < items.len() {
         items[i] = item;
+    }
+}
+
+// The item at a place among the first n, if there is one.
+pub fn nth_of<T: Copy>(items: &[T], n: usize, i: usize) -> Option<T>
+    ensures { λ r. ⌜ r ≡ nthOf (take n (now (items .entry))) i ⌝ }
+{
+    if i < n.min(items.len()) {
+        Some(items[i])
+    } else {
+        None
     }
 }

@@ -49,7 +49,7 @@ module _ {V C : Type 0} (m : Meaning V C) (qs : List (Quantity V)) where
         let P : Side → C → Type 0 = λ t x. holdsFor m x (valueAt s t i) ≡ holdsFor m x (valueAt e t i) in
         all-weaker (λ t. All (P t) (f i)) (λ t. All (P t) (g i)) (λ t k. sub i (P t) k) (sides (q .scope)) (h i q n)
 
-    test-same : (i : ℕ) (x : C) (k : Mode) (c : Scope) → modeFits m k c ≡ true → All (λ t. holdsFor m x (valueAt s t i) ≡ holdsFor m x (valueAt e t i)) (sides c) → test m k x i s ≡ test m k x i e
+    test-same : (i : ℕ) (x : C) (k : Mode) (c : Scope) → modeFits k c ≡ true → All (λ t. holdsFor m x (valueAt s t i) ≡ holdsFor m x (valueAt e t i)) (sides c) → test m k x i s ≡ test m k x i e
     test-same i x A Flight f h = h .0
     test-same i x A OfBoth f h = absurd (false≢true f)
     test-same i x B Flight f h = h .1 .0

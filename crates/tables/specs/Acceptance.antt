@@ -18,22 +18,23 @@ use Rattle.items.specs.declared.Entry.the-variants.{Any, Cell}
 use Rattle.tables.specs.Words.{UpTo, upTo}
 use Rattle.tables.specs.Contents.{Contents}
 
+-- mode pair is for quantities of the pair, the others are for those of each flight
+abbrev pub modeFits : Mode → Scope → Bool
+modeFits A Flight = true
+modeFits A OfBoth = false
+modeFits B Flight = true
+modeFits B OfBoth = false
+modeFits Both Flight = true
+modeFits Both OfBoth = false
+modeFits Either Flight = true
+modeFits Either OfBoth = false
+modeFits Pair Flight = false
+modeFits Pair OfBoth = true
+
 module _ {V C : Type 0} (m : Meaning V C) where
   -- What the draft calls ask of a quantity, a row and an entry.
   abbrev pub rangeLawful : Quantity V → Bool
   rangeLawful q = m .range (q .least) (q .greatest)
-
-  abbrev pub modeFits : Mode → Scope → Bool
-  modeFits A Flight = true
-  modeFits A OfBoth = false
-  modeFits B Flight = true
-  modeFits B OfBoth = false
-  modeFits Both Flight = true
-  modeFits Both OfBoth = false
-  modeFits Either Flight = true
-  modeFits Either OfBoth = false
-  modeFits Pair Flight = false
-  modeFits Pair OfBoth = true
 
   -- the row's quantity exists and the mode fits it
   abbrev pub modeLawful : Mode → Option (Quantity V) → Bool

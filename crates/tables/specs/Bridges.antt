@@ -3,7 +3,7 @@ use mathlib.Core.Path.{_≡_}
 use mathlib.Core.Bool.{true}
 use mathlib.Core.Logic.{_⊎_}
 use mathlib.Core.List.{List, [], _∷_}
-use Prim.Native.Nat.{_<_, _≤_}
+use Prim.Native.Nat.{ℕ, suc, _*_, _<_, _≤_}
 use lib.ListN.{length}
 use Rattle.std.specs.Options.{isSome, valueOr}
 use Rattle.std.specs.shelf.Lists.{All}
@@ -11,10 +11,13 @@ use Rattle.std.specs.declared.option.Option.{Option}
 use Rattle.std.specs.declared.option.Option.the-variants.{Some}
 use Rattle.kinds.specs.Meaning.{Meaning}
 use Rattle.results.specs.Results.{Results}
+use Rattle.items.specs.declared.Scope.{Scope}
+use Rattle.items.specs.declared.Scope.the-variants.{Flight, Pair as OfBoth}
+use Rattle.items.specs.declared.Quantity.{Quantity}
 use Rattle.tables.specs.Words.{Any, InOrder}
 use Rattle.tables.specs.Contents.{Contents, Encounter, Place, places, whole, valueOf, exchange, InRange}
 use Rattle.tables.specs.Outcomes.{outcome}
-use Rattle.tables.specs.Starts.{startsOn, count, fromStarts, onward, reset, advance, remaining, turned}
+use Rattle.tables.specs.Starts.{cellsOf, startsOn, starts, count, fromStarts, onward, reset, advance, remaining, turned}
 
 module _ {V C : Type 0} (m : Meaning V C) where
   -- s is up to z, and of the stops of the cells after v the earliest
@@ -40,11 +43,23 @@ module _ {V C : Type 0} (m : Meaning V C) where
   Precedes [] e s = ⊥
   Precedes (p ∷ ps) e s = Earlier (valueOf e p) (valueOf s p) ⊎ ((valueOf e p ≡ valueOf s p) × Precedes ps e s)
 
+abbrev pub taken : Scope → ℕ → ℕ
+taken Flight n = n * n
+taken OfBoth n = n
+
 module _ {V C R : Type 0} (m : Meaning V C) (r : Results R) (c : Contents V C R) where
   -- each encounter in range has the outcomes of one that is made of starts, as it stands and with the flights exchanged
   abbrev pub Bridge : Type 0
   Bridge = (e lent : Encounter V) → InRange m c e → whole lent ≡ true
       → Any (λ s. (outcome m r c s ≡ outcome m r c e) × (outcome m r c (exchange c s) ≡ outcome m r c (exchange c e))) (fromStarts m c lent)
+
+  -- the product of the numbers of starts of the quantities from number i on, a flight quantity's taken twice
+  abbrev pub countFrom : ℕ → List (Quantity V) → ℕ
+  countFrom i [] = 1
+  countFrom i (q ∷ qs) = let n = length (starts m (cellsOf c i) q) in taken (q .scope) n * countFrom (suc i) qs
+
+  abbrev pub CountIsProduct : Type 0
+  CountIsProduct = count m c ≡ countFrom 0 (c .quantities)
 
   -- the encounters made of starts are as many as the count, lie in range, and come in the order of their needed values: the lowest quantity first, A before B
   abbrev pub MadeOfStarts : Type 0

@@ -27,7 +27,7 @@ module _ {V C R : Type 0} (m : Meaning V C) (r : Results R) (c : Contents V C R)
     pub lengths : whole lent ≡ true
     pub few : count m c ≤ limit
 
-  -- what each answer of issue says: the questions before it are answered yes, and it is a no
+  -- what each answer of issue says, 13 to 18 and acceptance: the questions before it are answered yes, and its own no
   abbrev pub Says : Issue V → Type 0
   Says shortLists = whole lent ≡ false
   Says tooMany = (whole lent ≡ true) × (limit < count m c)

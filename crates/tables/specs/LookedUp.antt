@@ -50,7 +50,7 @@ module _ {V C R : Type 0} (m : Meaning V C) (r : Results R) (c : Contents V C R)
     pub number : cut .here .number ≡ i
     pub quantity : nth (c .quantities) i ≡ Some (cut .here .quantity)
 
-  -- what each answer of look-up says
+  -- what each answer of look-up says: 13, 19 to 22, and a result
   abbrev pub Tells : Look R → Type 0
   Tells shortFor = whole e ≡ false
   Tells (noResult (OutOfRange s i)) = FirstOutside s i

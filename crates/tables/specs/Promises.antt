@@ -6,16 +6,20 @@ use Prim.Native.Nat.{_≤_}
 use Rattle.kinds.specs.Meaning.{Meaning}
 use Rattle.results.specs.Results.{Results}
 use Rattle.items.specs.declared.Counts.{Counts}
-use Rattle.tables.specs.Contents.{Encounter}
+use Rattle.tables.specs.Contents.{Contents, Encounter}
 use Rattle.tables.specs.Acceptance.{Acceptable}
 use Rattle.tables.specs.Starts.{count}
 use Rattle.tables.specs.Issues.{limit}
-use Rattle.tables.specs.Calls.{Call, made, after, issued, Edit, edited}
+use Rattle.tables.specs.Calls.{Call, made, after, draft, issued, Edit, edited}
 use Rattle.tables.specs.Storage.{Lists, Bounded, RightLengths, contentsOf, countsAfter, listsAfter, openedOn, keptAfter, inOrder}
 use Rattle.tables.specs.Answers.{AnsweredFor}
 use Rattle.tables.specs.Faultless.{Faultless}
 use Rattle.tables.specs.Issued.{IssuedRightly}
 use Rattle.tables.specs.LookedUp.{LookedUpRightly}
+
+-- Some calls from open on make a draft with these contents.
+abbrev pub Makeable : {V C R : Type 0} → Meaning V C → Results R → Contents V C R → Type 0
+Makeable {V} {C} {R} m r c = (calls : List (Call V C R)) × (made m r calls ≡ record { status = draft; contents = c })
 
 -- An accepted edit leaves counts and lists that hold the edited contents.
 pub record StoredRightly {V C R : Type 0} (k : Edit V C R) (n : Counts) (l : Lists V C R) : Type 0 where

@@ -9,14 +9,14 @@ ghost use Rattle.items.specs.declared.Counts.{Counts};
 ghost use Rattle.std.specs.Orderings.{Decides};
 ghost use Rattle.std.specs.declared.option.Option.the-variants.{None};
 ghost use Rattle.tables.specs.Acceptance.{Acceptable, acceptable};
-ghost use Rattle.tables.specs.Bridges.{StartsGoOn, Bridge, MadeOfStarts, OneByOne};
+ghost use Rattle.tables.specs.Bridges.{StartsGoOn, CountIsProduct, Bridge, MadeOfStarts, OneByOne};
 ghost use Rattle.tables.specs.Calls.{Call, Edit, asked, firstNo};
 ghost use Rattle.tables.specs.Contents.{Contents, Encounter};
 ghost use Rattle.tables.specs.Edits.{EditedRightly};
 ghost use Rattle.tables.specs.Issued.{IssuedRightly};
 ghost use Rattle.tables.specs.LookedUp.{LookedUpRightly};
 ghost use Rattle.tables.specs.Margins.{MarginsMean};
-ghost use Rattle.tables.specs.Promises.{StoredRightly, EveryRun};
+ghost use Rattle.tables.specs.Promises.{Makeable, StoredRightly, EveryRun};
 ghost use Rattle.tables.specs.Rows.{ReadRightly};
 ghost use Rattle.tables.specs.Storage.{Lists, Bounded, RightLengths, contentsOf, inOrder};
 use kinds::Kind;
@@ -36,11 +36,14 @@ pub fn starts_are_the_stops<K: Kind>() -> u8
     0
 }
 
-// Each encounter in range has the outcomes of one made of starts; those are as many as the count
-// and stand in order, and the search from the least values on comes to all of them.
+// Each encounter in range has the outcomes of one made of starts. Those are as many as the count,
+// the product of the numbers of starts, and stand in order; the search from the least values on
+// comes to all of them.
 pub fn starts_stand_for_all<K: Kind, R: ResultKind>() -> u8
-    ensures { λ _. ⌜ ((c : Contents K·Value K·Cell R) → Acceptable (K·Kind .meaning) (R·ResultKind .results) c
-        → Bridge (K·Kind .meaning) (R·ResultKind .results) c × MadeOfStarts (K·Kind .meaning) (R·ResultKind .results) c × OneByOne (K·Kind .meaning) (R·ResultKind .results) c) ⌝ }
+    ensures bridge { λ _. ⌜ ((c : Contents K·Value K·Cell R) → Acceptable (K·Kind .meaning) (R·ResultKind .results) c → Bridge (K·Kind .meaning) (R·ResultKind .results) c) ⌝ }
+    ensures counted { λ _. ⌜ ((c : Contents K·Value K·Cell R) → Acceptable (K·Kind .meaning) (R·ResultKind .results) c → CountIsProduct (K·Kind .meaning) (R·ResultKind .results) c) ⌝ }
+    ensures made { λ _. ⌜ ((c : Contents K·Value K·Cell R) → Acceptable (K·Kind .meaning) (R·ResultKind .results) c → MadeOfStarts (K·Kind .meaning) (R·ResultKind .results) c) ⌝ }
+    ensures searched { λ _. ⌜ ((c : Contents K·Value K·Cell R) → Acceptable (K·Kind .meaning) (R·ResultKind .results) c → OneByOne (K·Kind .meaning) (R·ResultKind .results) c) ⌝ }
 {
     0
 }
@@ -75,10 +78,12 @@ pub fn edits_are_stored_rightly<K: Kind, R: ResultKind>() -> u8
     0
 }
 
-// The first question of every call, as a test of contents, and of counts and lists.
+// The first question of every call, as a test of contents, and of counts and lists. What it
+// accepts is just what calls can make.
 pub fn first_question_is_decided<K: Kind, R: ResultKind>() -> u8
     ensures contents { λ _. ⌜ ((c : Contents K·Value K·Cell R) → Decides (acceptable (K·Kind .meaning) (R·ResultKind .results) c) (Acceptable (K·Kind .meaning) (R·ResultKind .results) c)) ⌝ }
     ensures lists { λ _. ⌜ ((n : Counts) (l : Lists K·Value K·Cell R) → Decides (inOrder (K·Kind .meaning) (R·ResultKind .results) n l) (RightLengths l × Acceptable (K·Kind .meaning) (R·ResultKind .results) (contentsOf n l))) ⌝ }
+    ensures makeable { λ _. ⌜ ((c : Contents K·Value K·Cell R) → Acceptable (K·Kind .meaning) (R·ResultKind .results) c → Makeable (K·Kind .meaning) (R·ResultKind .results) c) ⌝ }
 {
     0
 }

@@ -3,3 +3,8 @@ pub mod Digits
 pub mod Spelling
 pub mod CellSteps
 pub mod LineSteps
+pub mod FieldTexts
+pub mod CellTexts
+pub mod PageTexts
+pub mod Lengths
+pub mod LineTexts

@@ -16,7 +16,7 @@ use Rattle.text.specs.Lines.{placed, inRow, entries, Kept}
 use Rattle.text.specs.Pages.{lined}
 use Rattle.text.specs.declared.types.Placed.{Placed}
 
-lined-first : (b : ℕ) (bs : List ℕ) → lined (b ∷ bs) ≡ take (upTo 10 (b ∷ bs)) (b ∷ bs) ∷ lined (drop (suc (upTo 10 (b ∷ bs))) (b ∷ bs))
+pub lined-first : (b : ℕ) (bs : List ℕ) → lined (b ∷ bs) ≡ take (upTo 10 (b ∷ bs)) (b ∷ bs) ∷ lined (drop (suc (upTo 10 (b ∷ bs))) (b ∷ bs))
 lined-first b [] = elim (eqb b 10) as (λ t. cond t ([] ∷ []) ((b ∷ []) ∷ []) ≡ take (cond t 0 1) (b ∷ []) ∷ lined (drop (suc (cond t 0 1)) (b ∷ []))) [ true ↦ refl | false ↦ refl ]
 lined-first b (x ∷ xs) =
     elim (eqb b 10) as (λ t. cond t ([] ∷ lined (x ∷ xs)) (inFront b (lined (x ∷ xs))) ≡ take (cond t 0 (suc (upTo 10 (x ∷ xs)))) (b ∷ (x ∷ xs)) ∷ lined (drop (suc (cond t 0 (suc (upTo 10 (x ∷ xs))))) (b ∷ (x ∷ xs))))

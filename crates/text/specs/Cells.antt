@@ -1,4 +1,4 @@
--- Cells on a page.
+-- Cells on a page. Assumes nothing.
 use mathlib.Core.List.{List, [], _∷_}
 use mathlib.Core.Bool.{Bool, true, false, cond, _&&_}
 use Prim.Native.Nat.{ℕ, _+_, _-_, _^_}
@@ -32,6 +32,7 @@ abbrev pub chain : {X Y : Type 0} → Option X → (X → Option Y) → Option Y
 chain (Some x) next = next x
 chain None next = None
 
+-- what two values that are there give
 abbrev pub both : {X Y : Type 0} → Option X → Option X → (X → X → Y) → Option Y
 both a b f = chain a (λ x. chain b (λ y. Some (f x y)))
 

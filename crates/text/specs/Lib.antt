@@ -5,3 +5,5 @@ pub mod Words
 pub mod Cells
 pub mod Lines
 pub mod Pages
+pub mod Texts
+pub mod Promises

@@ -1,5 +1,5 @@
 -- The lines of a page: which fields follow the first word. `at` is the byte of the line, from 1,
--- at which the fields start. A reading refuses with the byte of the first wrong field.
+-- at which the fields start. A reading refuses with the byte of the first wrong field. Assumes nothing.
 use mathlib.Core.List.{List, [], _∷_}
 use mathlib.Core.Bool.{cond}
 use Prim.Native.Nat.{ℕ, zero, suc, _+_}

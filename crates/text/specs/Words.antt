@@ -1,4 +1,4 @@
--- The words of a page, and the values of each kind.
+-- The words of a page, and the values of each kind. Assumes nothing.
 use mathlib.Core.List.{List, [], _∷_}
 use mathlib.Core.Bool.{cond, _&&_}
 use Prim.Native.Nat.{ℕ}
@@ -29,6 +29,7 @@ worded (p ∷ ps) bs = cond (sameBytes bs (p .0)) (Some (p .1)) (worded ps bs)
 abbrev pub modes : List (List ℕ × Mode)
 modes = (codes "A", A) ∷ ((codes "B", B) ∷ ((codes "both", Both) ∷ ((codes "either", Either) ∷ ((codes "pair", Pair) ∷ []))))
 
+-- the mode that a field names
 abbrev pub mode : List ℕ → Option Mode
 mode = worded modes
 
@@ -36,6 +37,7 @@ mode = worded modes
 abbrev pub kinds : List (List ℕ × KindWord)
 kinds = (codes "measure", Measure) ∷ ((codes "names", Names) ∷ ((codes "clock", Clock) ∷ []))
 
+-- the kind that a field names
 abbrev pub kind : List ℕ → Option KindWord
 kind = worded kinds
 
@@ -64,10 +66,11 @@ value Clock bs = each minuteValue (time bs)
 abbrev pub firstWords : List (List ℕ × Word)
 firstWords = (codes "flight", Flight) ∷ ((codes "pair", PairW) ∷ ((codes "row", RowW) ∷ ((codes "column", Column) ∷ ((codes "never", Never) ∷ ((codes "default", Default) ∷ ((codes "end", End) ∷ []))))))
 
+-- the first word that a field is
 abbrev pub firstWord : List ℕ → Option Word
 firstWord = worded firstWords
 
--- sections and the words of lines, in the order of a page; after a default only `end` is left
+-- sections in the order of a page; after a default only `end` is left
 abbrev pub rank : Section → ℕ
 rank Quantities = 0
 rank Rows = 1
@@ -75,6 +78,7 @@ rank Columns = 2
 rank Nevers = 3
 rank Ends = 5
 
+-- the words of lines in the order of a page
 abbrev pub place : Word → ℕ
 place Flight = 0
 place PairW = 0
@@ -84,7 +88,7 @@ place Never = 3
 place Default = 4
 place End = 5
 
--- which lines may come after a line with this word
+-- the section of a line with this word: lines of it and of later ones may follow
 abbrev pub sectionOf : Word → Section
 sectionOf Flight = Quantities
 sectionOf PairW = Quantities

@@ -1,5 +1,9 @@
 use Rattle.tables.proofs.Testing.{accepts, in-order}
+use Rattle.tables.proofs.Reaching.{makeable}
 use Rattle.tables.proofs.first_question_is_decided.Needs as need
 
 pub returns : need.returns
-returns g c = record { contents = accepts (g .K·Kind .meaning) (g .R·ResultKind .results); lists = in-order (g .K·Kind .meaning) (g .R·ResultKind .results) }
+returns g c =
+    let m = g .K·Kind .meaning in
+    let r = g .R·ResultKind .results in
+    record { contents = accepts m r; lists = in-order m r; makeable = makeable m r }

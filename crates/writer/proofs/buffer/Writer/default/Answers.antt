@@ -1,0 +1,7 @@
+use Rattle.writer.proofs.Wrote.{wrote-none, wrote-more}
+use Rattle.writer.proofs.buffer.Writer.default.Needs as need
+
+pub returns : need.returns
+returns c =
+    wrote-more (wrote-more (c .first .ensures)
+    (wrote-more (wrote-more (c .byte .ensures) (c .figure .ensures)) (wrote-none _))) (c .byte-2 .ensures)
