@@ -1,7 +1,10 @@
 // How many encounters are made of starts, as far as issue wants to know.
-ghost use Prim.Native.Nat.{_+_, _≤_};
-ghost use Rattle.std.specs.Options.{Cases as BySome};
-use crate::starts::next_start;
+ghost use mathlib.Core.Path.{_≡_};
+ghost use Prim.Native.Nat.{_+_, _*_, _≤_, min};
+ghost use Rattle.lists.specs.Held.{seen};
+ghost use Rattle.starts.specs.Counted.{startsOf, taken, withinLimit};
+ghost use Rattle.tables.specs.Starts.{count as countOf};
+use crate::next::next_start;
 use items::Quantity;
 use items::Scope;
 use kinds::Kind;
@@ -15,15 +18,16 @@ pub const LIMIT: u32 = 1_048_576;
 fn starts_up_to<K: Kind, R: ResultKind>(
     view: &View<'_, K, R>,
     i: usize,
-    q: Quantity<K::Value>,
+    least: K::Value,
+    greatest: K::Value,
     most: u32,
 ) -> u32
     requires { ⌜ most ≤ 1048576 ⌝ }
-    ensures { λ r. ⌜ r ≤ most + 1 ⌝ }
+    ensures { λ r. ⌜ r ≡ min (startsOf (K·Kind .meaning) (seen (now (view .entry))) i least greatest) (most + 1) ⌝ }
 {
-    let mut at = q.least;
+    let mut at = least;
     for n in 0..most {
-        match next_start(view, i, q.greatest, at) {
+        match next_start(view, i, greatest, at) {
             Some(v) => at = v,
             None => return n + 1,
         }
@@ -35,17 +39,19 @@ fn starts_up_to<K: Kind, R: ResultKind>(
 fn times_starts<K: Kind, R: ResultKind>(
     view: &View<'_, K, R>,
     i: usize,
-    q: Quantity<K::Value>,
+    least: K::Value,
+    greatest: K::Value,
     product: u32,
 ) -> Option<u32>
     requires { ⌜ product ≤ 1048576 ⌝ }
-    ensures { λ r. ⌜ BySome r (Unit {0}) (λ n. n ≤ 1048576) ⌝ }
+    ensures { λ r. ⌜ r ≡ withinLimit (product * startsOf (K·Kind .meaning) (seen (now (view .entry))) i least greatest) ⌝ }
 {
     if product == 0 {
         return Some(0);
     }
-    let n = starts_up_to(view, i, q, LIMIT / product);
-    if n > LIMIT / product {
+    let most = LIMIT / product;
+    let n = starts_up_to(view, i, least, greatest, most);
+    if n > most {
         return None;
     }
     Some(product * n)
@@ -55,31 +61,33 @@ fn times_starts<K: Kind, R: ResultKind>(
 fn times_quantity<K: Kind, R: ResultKind>(
     view: &View<'_, K, R>,
     i: usize,
+    q: Quantity<K::Value>,
     product: u32,
 ) -> Option<u32>
     requires { ⌜ product ≤ 1048576 ⌝ }
-    ensures { λ r. ⌜ BySome r (Unit {0}) (λ n. n ≤ 1048576) ⌝ }
+    ensures { λ r. ⌜ r ≡ withinLimit (product * taken (startsOf (K·Kind .meaning) (seen (now (view .entry))) i (q .least) (q .greatest)) (q .scope)) ⌝ }
 {
-    let Some(q) = view.quantity(i) else {
-        return Some(product);
+    let once = match times_starts(view, i, q.least, q.greatest, product) {
+        Some(once) => once,
+        None => return None,
     };
     match q.scope {
-        Scope::Flight => times_starts(view, i, q, times_starts(view, i, q, product)?),
-        Scope::Pair => times_starts(view, i, q, product),
+        Scope::Flight => times_starts(view, i, q.least, q.greatest, once),
+        Scope::Pair => Some(once),
     }
 }
 
 // The product of the numbers of starts, each flight quantity taken twice, if it is within the
 // limit. Counting stops as soon as the limit is passed.
 pub fn count<K: Kind, R: ResultKind>(view: &View<'_, K, R>) -> Option<u32>
-    ensures { λ r. ⌜ BySome r (Unit {0}) (λ n. n ≤ 1048576) ⌝ }
+    ensures { λ r. ⌜ r ≡ withinLimit (countOf (K·Kind .meaning) (seen (now (view .entry)))) ⌝ }
 {
     let mut product = 1;
     for i in 0..view.counts.quantities {
-        let Some(more) = times_quantity(view, i, product) else {
-            return None;
-        };
-        product = more;
+        match times_quantity(view, i, view.quantities[i], product) {
+            Some(more) => product = more,
+            None => return None,
+        }
     }
     Some(product)
 }

@@ -1,0 +1,2 @@
+mod Stopping
+mod Counting
