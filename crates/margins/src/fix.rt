@@ -1,0 +1,50 @@
+// Where each flight is, and when the two pass.
+ghost use mathlib.Core.Path.{_≡_};
+ghost use Rattle.margins.specs.Limits.{fixInLimits, passingInLimits};
+
+// A flight: its level in hundreds of feet, its lateral position in tenths of a nautical mile, and
+// its time over the common point in seconds.
+#[derive(Clone, Copy)]
+pub struct Fix {
+    pub level: i32,
+    pub lateral: i32,
+    pub time: i32,
+}
+
+// Do the flights go the same way, or one against the other?
+#[derive(Clone, Copy)]
+pub enum Direction {
+    Same,
+    Opposite,
+}
+
+// What the flights share: how they go, when they pass, and the time that is asked about, in seconds.
+#[derive(Clone, Copy)]
+pub struct Passing {
+    pub direction: Direction,
+    pub time: i32,
+    pub t: i32,
+}
+
+impl Fix {
+    // Is each of the three in its limits?
+    pub fn is_in_limits(self) -> bool
+        ensures { λ r. ⌜ r ≡ fixInLimits self ⌝ }
+    {
+        0 <= self.level
+            && self.level <= 660
+            && -100_000 <= self.lateral
+            && self.lateral <= 100_000
+            && 0 <= self.time
+            && self.time <= 172_799
+    }
+}
+
+impl Passing {
+    // Are both times in their limits, whatever the direction?
+    pub fn is_in_limits(self) -> bool
+        ensures { λ r. ⌜ r ≡ passingInLimits self ⌝ }
+    {
+        0 <= self.time && self.time <= 172_799 && 0 <= self.t && self.t <= 172_799
+    }
+}
