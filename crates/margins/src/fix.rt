@@ -1,6 +1,6 @@
 // Where each flight is, and when the two pass.
 ghost use mathlib.Core.Path.{_≡_};
-ghost use Rattle.margins.specs.Limits.{fixInLimits, passingInLimits};
+ghost use Rattle.margins.specs.Limits.{between, fixInLimits, passingInLimits};
 
 // A flight: its level in hundreds of feet, its lateral position in tenths of a nautical mile, and
 // its time over the common point in seconds.
@@ -26,17 +26,21 @@ pub struct Passing {
     pub t: i32,
 }
 
+// Is a number from one to another, both included?
+fn is_between(least: i32, x: i32, greatest: i32) -> bool
+    ensures { λ r. ⌜ r ≡ between least x greatest ⌝ }
+{
+    least <= x && x <= greatest
+}
+
 impl Fix {
     // Is each of the three in its limits?
     pub fn is_in_limits(self) -> bool
         ensures { λ r. ⌜ r ≡ fixInLimits self ⌝ }
     {
-        0 <= self.level
-            && self.level <= 660
-            && -100_000 <= self.lateral
-            && self.lateral <= 100_000
-            && 0 <= self.time
-            && self.time <= 172_799
+        is_between(0, self.level, 660)
+            && is_between(-100_000, self.lateral, 100_000)
+            && is_between(0, self.time, 172_799)
     }
 }
 
@@ -45,6 +49,6 @@ impl Passing {
     pub fn is_in_limits(self) -> bool
         ensures { λ r. ⌜ r ≡ passingInLimits self ⌝ }
     {
-        0 <= self.time && self.time <= 172_799 && 0 <= self.t && self.t <= 172_799
+        is_between(0, self.time, 172_799) && is_between(0, self.t, 172_799)
     }
 }

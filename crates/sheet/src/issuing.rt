@@ -1,12 +1,12 @@
 // Issuing a draft and withdrawing an issued sheet.
 use crate::states::Draft;
 use crate::states::Issued;
-use encounters::seek::find_fault;
 use faults::SheetFault;
 use kinds::Kind;
 use lists::lent::Lists;
 use lists::lent::Showing;
 use results::ResultKind;
+use seeking::seek::find_fault;
 
 // The count of a sheet, or the first refusal.
 fn examine<K: Kind, R: ResultKind>(

@@ -1,7 +1,7 @@
 // How many encounters are made of starts, as far as issue wants to know.
 ghost use Prim.Native.Nat.{_+_, _≤_};
 ghost use Rattle.std.specs.Options.{Cases as BySome};
-use crate::starts::next_start;
+use crate::next::next_start;
 use items::Quantity;
 use items::Scope;
 use kinds::Kind;

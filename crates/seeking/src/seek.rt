@@ -1,17 +1,16 @@
 // The questions that issue asks of the encounters of a sheet, each over all that are made of
 // starts.
-use crate::count::count;
-use crate::judge::alike;
-use crate::judge::outcome;
 use crate::odometer::reset;
 use crate::odometer::turn;
-use crate::outcome::Outcome;
 use faults::SheetFault;
 use kinds::Kind;
 use lists::lent::Encounter;
 use lists::lent::Showing;
 use lists::view::View;
+use outcomes::judge::outcome;
+use outcomes::outcome::Outcome;
 use results::ResultKind;
+use starts::count::count;
 
 // What is sought.
 #[derive(Clone, Copy)]
@@ -32,16 +31,10 @@ fn is_sought<K: Kind, R: ResultKind>(
 ) -> bool {
     let here = outcome(view, e);
     match sought {
-        Sought::Open => !matches!(here, Outcome::Barred),
-        Sought::Gap => matches!(here, Outcome::Gap),
-        Sought::Clash => matches!(
-            here,
-            Outcome::Clash {
-                lowest: _,
-                other: _
-            }
-        ),
-        Sought::Asymmetry => !alike(here, outcome(view, &e.exchanged())),
+        Sought::Open => !here.is_barred(),
+        Sought::Gap => here.is_gap(),
+        Sought::Clash => here.is_clash(),
+        Sought::Asymmetry => !here.is_like(outcome(view, &e.exchanged())),
     }
 }
 

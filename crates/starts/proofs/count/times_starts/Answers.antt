@@ -1,7 +1,7 @@
 use Prim.Native.Nat.{ℕ, _*_, _/_, _≤_}
 use native.Mathlib.Nat.{mul-div-le, mul-le-mul-left}
 use native.Mathlib.Omega.{arith}
-use Rattle.encounters.proofs.count.times_starts.Needs as need
+use Rattle.starts.proofs.count.times_starts.Needs as need
 
 -- a number of times that a product goes into the limit
 within : (limit p n : ℕ) → n ≤ limit / p → p * n ≤ limit

@@ -1,6 +1,5 @@
 // Going through the encounters made of starts one by one, in the caller's lists: the first needed
 // value turns slowest, the last one fastest. Values that no quantity needs are left alone.
-use crate::starts::next_start;
 use items::Quantity;
 use items::Scope;
 use items::Side;
@@ -8,6 +7,7 @@ use kinds::Kind;
 use lists::lent::Showing;
 use lists::view::View;
 use results::ResultKind;
+use starts::next::next_start;
 
 // Puts the quantity's least value into the lists that it needs.
 fn reset_quantity<V: Copy>(i: usize, q: Quantity<V>, at: &mut Showing<'_, V>) {

@@ -1,5 +1,5 @@
 use Prim.Native.Nat.{_≤_}
-use Rattle.encounters.proofs.count.count.Given as given
+use Rattle.starts.proofs.count.count.Given as given
 
 abbrev pub Inv-loop-i : given.InvT-loop-i
 Inv-loop-i g l = l .product ≤ 1048576

@@ -1,0 +1,3 @@
+// The way through the encounters made of starts, and the earliest with a fault.
+pub mod odometer;
+pub mod seek;
