@@ -59,8 +59,8 @@ module _ {X C R : Type 0} (m : Meaning X C) (r : Results R) (equal : (x y : R) �
   look-alike f =
       let k = looked-up-rightly m r (held m s) e in
       elim (k .settled (f .long) (f .inRange) (f .faultless)) [
-        inl b ↦ k .stillBarred (f .faultless) b ∙ sym b
-      | inr a ↦ let y = k .stillFound (f .faultless) (a .0) (a .1) in y .1 .0 ∙ ap found (sym (equal (a .0) (y .0) (y .1 .1))) ∙ sym (a .1)
+        | inl b ↦ k .stillBarred (f .faultless) b ∙ sym b
+        | inr a ↦ let y = k .stillFound (f .faultless) (a .0) (a .1) in y .1 .0 ∙ ap found (sym (equal (a .0) (y .0) (y .1 .1))) ∙ sym (a .1)
       ]
 
   answer-alike : Fit m r s e → answerOf m r s (exchanged e) ≡ answerOf m r s e

@@ -54,11 +54,7 @@ pub struct Minima {
 
 impl<'a, 'b, K: Kind> Sheets<'a, 'b, K> {
     // The minimum along the way. The sheet of the other direction is asked nothing.
-    fn along(
-        &self,
-        direction: Direction,
-        e: &Encounter<'_, K::Value>,
-    ) -> Result<Along, Lettered>
+    fn along(&self, direction: Direction, e: &Encounter<'_, K::Value>) -> Result<Along, Lettered>
         ensures { λ r. ⌜ r ≡ alongOf (K·Kind .meaning) (four (now (self .entry))) (encounterOf (now (e .entry))) direction ⌝ }
     {
         match direction {
