@@ -35,8 +35,8 @@ fn seek_on<K: Kind, R: ResultKind>(
     ensures after { λ r. ⌜ (Acceptable (K·Kind .meaning) (R·ResultKind .results) (seen (now (view .entry))) → whole (shown (now (at .entry))) ≡ true
         → length (remaining (K·Kind .meaning) (seen (now (view .entry))) (places (seen (now (view .entry)))) (shown (now (at .entry)))) ≡ count
         → Ended (K·Kind .meaning) (seen (now (view .entry))) (soughtIn (K·Kind .meaning) (R·ResultKind .results) (seen (now (view .entry))) sought)
-            (remaining (K·Kind .meaning) (seen (now (view .entry))) (places (seen (now (view .entry)))) (shown (now (at .entry))))
-            (resetOf (K·Kind .meaning) (seen (now (view .entry))) (places (seen (now (view .entry)))) (shown (now (at .entry)))) r (shown (now (at .exit)))) ⌝ }
+        (remaining (K·Kind .meaning) (seen (now (view .entry))) (places (seen (now (view .entry)))) (shown (now (at .entry))))
+        (resetOf (K·Kind .meaning) (seen (now (view .entry))) (places (seen (now (view .entry)))) (shown (now (at .entry)))) r (shown (now (at .exit)))) ⌝ }
     ensures lent { λ _. ⌜ SameShowing (now (at .entry)) (now (at .exit)) ⌝ }
 {
     for _n in 0..count {
@@ -61,8 +61,8 @@ fn seek<K: Kind, R: ResultKind>(
     ensures after { λ r. ⌜ (Acceptable (K·Kind .meaning) (R·ResultKind .results) (seen (now (view .entry))) → whole (shown (now (at .entry))) ≡ true
         → count ≡ countOf (K·Kind .meaning) (seen (now (view .entry)))
         → Ended (K·Kind .meaning) (seen (now (view .entry))) (soughtIn (K·Kind .meaning) (R·ResultKind .results) (seen (now (view .entry))) sought)
-            (fromStarts (K·Kind .meaning) (seen (now (view .entry))) (shown (now (at .entry))))
-            (resetOf (K·Kind .meaning) (seen (now (view .entry))) (places (seen (now (view .entry)))) (shown (now (at .entry)))) r (shown (now (at .exit)))) ⌝ }
+        (fromStarts (K·Kind .meaning) (seen (now (view .entry))) (shown (now (at .entry))))
+        (resetOf (K·Kind .meaning) (seen (now (view .entry))) (places (seen (now (view .entry)))) (shown (now (at .entry)))) r (shown (now (at .exit)))) ⌝ }
     ensures lent { λ _. ⌜ SameShowing (now (at .entry)) (now (at .exit)) ⌝ }
 {
     reset(view, at);
@@ -92,7 +92,7 @@ fn questions<K: Kind, R: ResultKind>(
     ensures found { λ r. ⌜ (Acceptable (K·Kind .meaning) (R·ResultKind .results) (seen (now (view .entry))) → whole (shown (now (at .entry))) ≡ true
         → count ≡ countOf (K·Kind .meaning) (seen (now (view .entry)))
         → Found (K·Kind .meaning) (R·ResultKind .results) (seen (now (view .entry))) (shown (now (at .entry)))
-            (searched (K·Kind .meaning) (R·ResultKind .results) (seen (now (view .entry))) (fromStarts (K·Kind .meaning) (seen (now (view .entry))) (shown (now (at .entry))))) r (shown (now (at .exit)))) ⌝ }
+        (searched (K·Kind .meaning) (R·ResultKind .results) (seen (now (view .entry))) (fromStarts (K·Kind .meaning) (seen (now (view .entry))) (shown (now (at .entry))))) r (shown (now (at .exit)))) ⌝ }
     ensures lent { λ _. ⌜ SameShowing (now (at .entry)) (now (at .exit)) ⌝ }
 {
     let open = seek(view, count, Sought::Open, at);
@@ -122,7 +122,7 @@ pub fn find_fault<K: Kind, R: ResultKind>(
 ) -> Result<u32, SheetFault>
     ensures found { λ r. ⌜ (Acceptable (K·Kind .meaning) (R·ResultKind .results) (seen (now (view .entry)))
         → Found (K·Kind .meaning) (R·ResultKind .results) (seen (now (view .entry))) (shown (now (at .entry)))
-            (issue (K·Kind .meaning) (R·ResultKind .results) (seen (now (view .entry))) (shown (now (at .entry)))) r (shown (now (at .exit)))) ⌝ }
+        (issue (K·Kind .meaning) (R·ResultKind .results) (seen (now (view .entry))) (shown (now (at .entry)))) r (shown (now (at .exit)))) ⌝ }
     ensures lent { λ _. ⌜ SameShowing (now (at .entry)) (now (at .exit)) ⌝ }
 {
     if !at.encounter().is_whole() {

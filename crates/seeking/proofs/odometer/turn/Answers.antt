@@ -27,6 +27,8 @@ pub loop-i-again : need.loop-i-again
 loop-i-again g c =
     let long : c .args .view .now .counts .quantities ≤ length (c .args .view .now .quantities .now) = omega arith in
     let some : 0 < c .loop-i .i = omega arith in
-    let few : c .loop-i .i ≤ c .args .view .now .counts .quantities = omega arith in
-    (turned-step (g .K·Kind .meaning) (seen (c .args .view .now)) (c .args .view .now .quantities .now) (c .args .view .now .counts .quantities) (c .loop-i .i) (c .index-view-i .result) (shown (c .args .at .now)) (shown (c .loop-i .at)) (shown (c .turn-quantity .last .at)) long some few
-    (c .loop-i .inv .0) (c .turn-quantity .ensures .after) (c .if-turn-quantity .left), same-on (c .loop-i .inv .1) (c .turn-quantity .ensures .lent))
+    let few : c .loop-i .i ≤ c .args .view .now .counts .quantities = omega arith in (
+      turned-step (g .K·Kind .meaning) (seen (c .args .view .now)) (c .args .view .now .quantities .now) (c .args .view .now .counts .quantities) (c .loop-i .i) (c .index-view-i .result) (shown (c .args .at .now)) (shown (c .loop-i .at)) (shown (c .turn-quantity .last .at)) long some few
+          (c .loop-i .inv .0) (c .turn-quantity .ensures .after) (c .if-turn-quantity .left),
+      same-on (c .loop-i .inv .1) (c .turn-quantity .ensures .lent),
+    )
