@@ -1,7 +1,7 @@
 -- What the lists of a call hold, by the definitions of a sheet. Assumes nothing.
 use denote.Ref.{now, name}
 use mathlib.Core.Path.{_≡_}
-use mathlib.Core.Bool.{Bool, true, false, cond}
+use mathlib.Core.Bool.{true, false}
 use Rattle.std.specs.declared.result.Result.{Result}
 use Rattle.std.specs.declared.result.Result.the-variants.{Ok, Err}
 use Rattle.std.specs.declared.option.Option.{Option}
@@ -60,7 +60,3 @@ module _ {K R V C : Type 0} where
   abbrev pub FirstAnswer : Meaning V C → Results R → Counts → LentLists K R V C → Result (View K R V C) SheetFault → Type 0
   FirstAnswer m r n l (Ok v) = (v .counts ≡ n) × (viewed v ≡ listsOf l) × (inOrder m r n (listsOf l) ≡ true)
   FirstAnswer m r n l (Err f) = (f ≡ WrongLists) × (inOrder m r n (listsOf l) ≡ false)
-
-  -- the same without the view
-  abbrev pub firstAnswer : Meaning V C → Results R → Counts → LentLists K R V C → Result (Unit {0}) SheetFault
-  firstAnswer m r n l = cond (inOrder m r n (listsOf l)) (Ok tt) (Err WrongLists)

@@ -1,12 +1,14 @@
 // Are the lists of right length, and is each entry in use one that the draft calls would accept?
+ghost use lib.ListN.{length};
 ghost use mathlib.Core.Bool.{_&&_};
 ghost use mathlib.Core.Path.{_≡_};
 ghost use Prim.Native.Nat.{_<_};
-ghost use Rattle.lists.specs.Held.{FirstAnswer, Looked, firstAnswer, listsOf, seen};
+ghost use Rattle.lists.specs.Held.{FirstAnswer, Looked, listsOf, seen};
 ghost use Rattle.std.specs.Finite.{nth};
+ghost use Rattle.std.specs.Vec.{made};
 ghost use Rattle.tables.specs.Acceptance.{acceptable, defaultLawful, entriesLawful, entryLawful, modeFits, rangeLawful, rowLawful};
 ghost use Rattle.tables.specs.Calls.{lawfulAt};
-ghost use Rattle.tables.specs.Storage.{Bounded, columnOf, rightLengths};
+ghost use Rattle.tables.specs.Storage.{Bounded, columnOf, inOrder, rightLengths};
 ghost use Rattle.tables.specs.Words.{allOf};
 use crate::lent::Lists;
 use crate::places::nth_of;
@@ -34,6 +36,31 @@ fn mode_fits(mode: Mode, scope: Scope) -> bool
 }
 
 impl<'a, K: Kind, R: ResultKind> View<'a, K, R> {
+    // How many quantities, rows, columns and nevers the sheet has.
+    pub fn quantity_count(&self) -> usize
+        ensures { λ r. ⌜ r ≡ length (seen (now (self .entry)) .quantities) ⌝ }
+    {
+        self.counts.quantities
+    }
+
+    pub fn row_count(&self) -> usize
+        ensures { λ r. ⌜ r ≡ length (seen (now (self .entry)) .rows) ⌝ }
+    {
+        self.counts.rows
+    }
+
+    pub fn column_count(&self) -> usize
+        ensures { λ r. ⌜ r ≡ length (seen (now (self .entry)) .columns) ⌝ }
+    {
+        self.counts.columns
+    }
+
+    pub fn never_count(&self) -> usize
+        ensures { λ r. ⌜ r ≡ length (seen (now (self .entry)) .nevers) ⌝ }
+    {
+        self.counts.nevers
+    }
+
     // A quantity in use.
     pub fn quantity(&self, i: usize) -> Option<Quantity<K::Value>>
         ensures { λ r. ⌜ r ≡ nth (seen (now (self .entry)) .quantities) i ⌝ }
@@ -214,7 +241,8 @@ impl<'a, K: Kind, R: ResultKind> Lists<'a, K, R> {
     // The sheet that the lists hold, if the first question is answered yes. Counts that no draft can
     // have are refused too.
     pub fn checked(&self, counts: Counts) -> Result<View<'_, K, R>, SheetFault>
-        ensures { λ r. ⌜ (Bounded counts → FirstAnswer (K·Kind .meaning) (R·ResultKind .results) counts (now (self .entry)) r) ⌝ }
+        ensures answer { λ r. ⌜ (Bounded counts → FirstAnswer (K·Kind .meaning) (R·ResultKind .results) counts (now (self .entry)) r) ⌝ }
+        ensures few { λ r. ⌜ made r (λ _. Bounded counts) ⌝ }
     {
         if counts.quantities <= 16
             && counts.rows <= 16
@@ -227,11 +255,13 @@ impl<'a, K: Kind, R: ResultKind> Lists<'a, K, R> {
         }
     }
 
-    // The first question of a call that needs no more of the lists.
-    pub fn check(&self, counts: Counts) -> Result<(), SheetFault>
-        ensures { λ r. ⌜ (Bounded counts → r ≡ firstAnswer (K·Kind .meaning) (R·ResultKind .results) counts (now (self .entry))) ⌝ }
+    // Is the first question answered yes?
+    pub fn in_order(&self, counts: Counts) -> bool
+        ensures { λ r. ⌜ (Bounded counts → r ≡ inOrder (K·Kind .meaning) (R·ResultKind .results) counts (listsOf (now (self .entry)))) ⌝ }
     {
-        let _ = self.checked(counts)?;
-        Ok(())
+        match self.checked(counts) {
+            Ok(_) => true,
+            Err(_) => false,
+        }
     }
 }

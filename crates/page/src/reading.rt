@@ -7,6 +7,7 @@ use crate::fault::LineFault;
 use crate::fault::PageFault;
 use crate::fault::PageRefusal;
 use clock::ClockKind;
+use faults::SheetFault;
 use joined::JoinedKind;
 use kinds::Kind;
 use lexer::words::allowed;
@@ -77,8 +78,8 @@ fn read_lines(
 // wrote stays in the lists.
 pub fn read(page: &[u8], lists: &mut PageLists<'_>) -> Result<Draft, PageRefusal> {
     let mut draft = Draft::open();
-    if let Err(fault) = lists.check(draft.counts()) {
-        return Err(PageFault::Call(fault).of_page());
+    if !lists.in_order(draft.counts()) {
+        return Err(PageFault::Call(SheetFault::Lists).of_page());
     }
     if page.len() > MOST_BYTES {
         return Err(PageFault::TooLong.of_page());

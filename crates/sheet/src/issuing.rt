@@ -1,4 +1,4 @@
-// Issuing a draft and withdrawing an issued sheet.
+// Issuing a draft.
 use crate::states::Draft;
 use crate::states::Issued;
 use faults::SheetFault;
@@ -28,19 +28,6 @@ impl Draft {
     ) -> Result<(Issued, u32), (Draft, SheetFault)> {
         match examine(&self, lists, at) {
             Ok(count) => Ok((self.into_issued(), count)),
-            Err(fault) => Err((self, fault)),
-        }
-    }
-}
-
-impl Issued {
-    // Gives the draft with the same contents.
-    pub fn withdraw<K: Kind, R: ResultKind>(
-        self,
-        lists: &Lists<'_, K, R>,
-    ) -> Result<Draft, (Issued, SheetFault)> {
-        match lists.checked(self.counts()) {
-            Ok(_) => Ok(self.into_draft()),
             Err(fault) => Err((self, fault)),
         }
     }

@@ -3,4 +3,4 @@
 pub mod draft_calls;
 pub mod issuing;
 pub mod states;
-mod writes;
+pub mod withdrawing;

@@ -1,5 +1,7 @@
 // The two states of a sheet. Neither can be copied: a draft that was issued is gone, and so is an
 // issued sheet that was withdrawn.
+ghost use mathlib.Core.Bool.{false};
+ghost use mathlib.Core.Path.{_≡_};
 ghost use Prim.Native.Nat.{_≤_};
 use items::Counts;
 
@@ -25,7 +27,9 @@ pub struct Issued {
 
 impl Draft {
     // A draft without any contents, whatever the lists hold.
-    pub fn open() -> Draft {
+    pub fn open() -> Draft
+        ensures { λ r. ⌜ r .counts ≡ record { quantities = 0; rows = 0; columns = 0; nevers = 0; default = false } ⌝ }
+    {
         Draft {
             counts: Counts {
                 quantities: 0,
@@ -38,12 +42,16 @@ impl Draft {
     }
 
     // How much of its lists the draft uses.
-    pub fn counts(&self) -> Counts {
+    pub fn counts(&self) -> Counts
+        ensures { λ r. ⌜ r ≡ now (self .entry) .counts ⌝ }
+    {
         self.counts
     }
 
     // The draft as an issued sheet.
-    pub(crate) fn into_issued(self) -> Issued {
+    pub(crate) fn into_issued(self) -> Issued
+        ensures { λ r. ⌜ r .counts ≡ self .counts ⌝ }
+    {
         let Draft { counts } = self;
         Issued { counts }
     }
@@ -51,12 +59,16 @@ impl Draft {
 
 impl Issued {
     // How much of its lists the sheet uses.
-    pub fn counts(&self) -> Counts {
+    pub fn counts(&self) -> Counts
+        ensures { λ r. ⌜ r ≡ now (self .entry) .counts ⌝ }
+    {
         self.counts
     }
 
     // The sheet as a draft.
-    pub(crate) fn into_draft(self) -> Draft {
+    pub(crate) fn into_draft(self) -> Draft
+        ensures { λ r. ⌜ r .counts ≡ self .counts ⌝ }
+    {
         let Issued { counts } = self;
         Draft { counts }
     }
