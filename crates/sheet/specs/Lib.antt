@@ -1,1 +1,2 @@
 pub mod Withdrawn
+pub mod Issuing

@@ -33,7 +33,7 @@ module _ {V C R : Type 0} (m : Meaning V C) (law : Lawful m) (r : Results R) (c 
   put-reset : (p : Place V) (ps : List (Place V)) → All (Apart p) ps → (v w : V) (e : Encounter V) → putAt p v (reset m c ps (putAt p w e)) ≡ reset m c ps (putAt p v e)
   put-reset p ps a v w e = reset-put p ps a v (putAt p w e) ∙ ap (reset m c ps) (put-put (p .side) (p .number) v w e)
 
-  reset-reset : (ps : List (Place V)) → Separate ps → (e : Encounter V) → reset m c ps (reset m c ps e) ≡ reset m c ps e
+  pub reset-reset : (ps : List (Place V)) → Separate ps → (e : Encounter V) → reset m c ps (reset m c ps e) ≡ reset m c ps e
   reset-reset [] d e = refl
   reset-reset (p ∷ ps) d e = ap (reset m c ps) (put-reset p ps (d .0) (p .quantity .least) (p .quantity .least) e) ∙ reset-reset ps (d .1) (putAt p (p .quantity .least) e)
 
@@ -79,7 +79,7 @@ module _ {V C R : Type 0} (m : Meaning V C) (law : Lawful m) (r : Results R) (c 
       let w = p .quantity .least in
       ap (λ x. reset m c ps (putAt p w x)) (sym (some-same (reset m c ps (putAt p v e)) s k)) ∙ ap (reset m c ps) (put-reset p ps (d .0) w v e) ∙ reset-reset ps (d .1) (putAt p w e)
 
-  advance-reset : (ps : List (Place V)) → Separate ps → (e s : Encounter V) → advance m c ps e ≡ Some s → reset m c ps s ≡ reset m c ps e
+  pub advance-reset : (ps : List (Place V)) → Separate ps → (e s : Encounter V) → advance m c ps e ≡ Some s → reset m c ps s ≡ reset m c ps e
   advance-reset [] d e s k = none-some s k
   advance-reset (p ∷ ps) d e s k = advance-by p ps d e s (advance m c ps e) (λ x. advance-reset ps (d .1) e x) (nextAt m c p (valueOf e p)) k
 
