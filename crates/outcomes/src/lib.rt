@@ -1,4 +1,4 @@
 // What a sheet says of an encounter.
 pub mod judge;
 pub mod outcome;
-pub mod row;
+mod row;

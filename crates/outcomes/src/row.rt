@@ -41,7 +41,11 @@ fn test<K: Kind>(mode: Mode, cell: K::Cell, quantity: usize, e: &Encounter<'_, K
 }
 
 // Does the entry hold in a row? Any always does.
-pub fn entry_holds<K: Kind>(row: Row, cell: Entry<K::Cell>, e: &Encounter<'_, K::Value>) -> bool
+pub(crate) fn entry_holds<K: Kind>(
+    row: Row,
+    cell: Entry<K::Cell>,
+    e: &Encounter<'_, K::Value>,
+) -> bool
     ensures { λ r. ⌜ r ≡ entryHolds (K·Kind .meaning) row cell (encounterOf (now (e .entry))) ⌝ }
 {
     match cell {

@@ -27,7 +27,7 @@ fn reset_quantity<V: Copy>(i: usize, q: Quantity<V>, at: &mut Showing<'_, V>)
 }
 
 // Puts every needed value to its least.
-pub fn reset<K: Kind, R: ResultKind>(view: &View<'_, K, R>, at: &mut Showing<'_, K::Value>)
+pub(crate) fn reset<K: Kind, R: ResultKind>(view: &View<'_, K, R>, at: &mut Showing<'_, K::Value>)
     ensures after { λ _. ⌜ shown (now (at .exit)) ≡ resetOf (K·Kind .meaning) (seen (now (view .entry))) (places (seen (now (view .entry)))) (shown (now (at .entry))) ⌝ }
     ensures lent { λ _. ⌜ SameShowing (now (at .entry)) (now (at .exit)) ⌝ }
 {
@@ -112,7 +112,10 @@ fn turn_quantity<K: Kind, R: ResultKind>(
 }
 
 // Goes on to the next encounter made of starts; after the last one, back to the first and false.
-pub fn turn<K: Kind, R: ResultKind>(view: &View<'_, K, R>, at: &mut Showing<'_, K::Value>) -> bool
+pub(crate) fn turn<K: Kind, R: ResultKind>(
+    view: &View<'_, K, R>,
+    at: &mut Showing<'_, K::Value>,
+) -> bool
     ensures after { λ r. ⌜ (r, shown (now (at .exit))) ≡ turned (K·Kind .meaning) (seen (now (view .entry))) (places (seen (now (view .entry)))) (shown (now (at .entry))) ⌝ }
     ensures lent { λ _. ⌜ SameShowing (now (at .entry)) (now (at .exit)) ⌝ }
 {

@@ -105,7 +105,9 @@ fn questions<K: Kind, R: ResultKind>(
     }
     let clashing = seek(view, count, Sought::Clash, at);
     if clashing {
-        return Err(clash(view, &at.encounter()));
+        let shown = at.encounter();
+        let fault = clash(view, &shown);
+        return Err(fault);
     }
     let asymmetric = seek(view, count, Sought::Asymmetry, at);
     if asymmetric {

@@ -9,7 +9,7 @@ use outcomes::judge::outcome;
 use results::ResultKind;
 
 #[derive(Clone, Copy)]
-pub enum Sought {
+pub(crate) enum Sought {
     // An encounter that is not barred.
     Open,
     Gap,
@@ -19,7 +19,7 @@ pub enum Sought {
 }
 
 // Is the encounter one that is sought?
-pub fn is_sought<K: Kind, R: ResultKind>(
+pub(crate) fn is_sought<K: Kind, R: ResultKind>(
     view: &View<'_, K, R>,
     sought: Sought,
     e: &Encounter<'_, K::Value>,

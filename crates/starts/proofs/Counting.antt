@@ -19,11 +19,12 @@ use Rattle.tables.specs.Words.{product}
 use Rattle.items.specs.declared.Side.the-variants.{OfA}
 use Rattle.tables.specs.Contents.{Contents, Place, placesFrom, sides}
 use Rattle.tables.specs.Starts.{cellsOf, onward, next, startsOn, startsAt}
+use Rattle.tables.specs.Bridges.{taken}
 use Rattle.tables.specs.Issues.{limit}
 use Rattle.tables.proofs.Lists.{none-some, some-same}
 use Rattle.tables.proofs.Covering.{starts-on}
 use Rattle.outcomes.proofs.Left.{front-here, front-end}
-use Rattle.starts.specs.Counted.{withinLimit, startsOf, taken}
+use Rattle.starts.specs.Counted.{withinLimit, startsOf}
 
 -- the starts from v on: v alone, or one more than from the next one on
 module _ {V C : Type 0} (m : Meaning V C) (law : Lawful m) (xs : List C) (z v : V) where
@@ -54,7 +55,7 @@ grow x y h = let a : x * 1 ≤ x * y = mul-le-mul-left x h in omega (arith, mul-
 some-more : (x y : ℕ) → 1 ≤ x → 1 ≤ y → 1 ≤ x * y
 some-more x y h k = omega (arith, grow x y k)
 
-pub taken-some : (n : ℕ) (s : Scope) → 1 ≤ n → 1 ≤ taken n s
+pub taken-some : (n : ℕ) (s : Scope) → 1 ≤ n → 1 ≤ taken s n
 taken-some n Flight h = some-more n n h h
 taken-some n Pair h = h
 
@@ -91,32 +92,32 @@ kept p l n is under =
     (b, told (p * n) b ∙ ap (λ k. withinLimit (p * k)) same)
 
 -- the places of one quantity
-pub quantity-over : (p l : ℕ) (s : Scope) → 1 ≤ l → None ≡ withinLimit (p * l) → None ≡ withinLimit (p * taken l s)
+pub quantity-over : (p l : ℕ) (s : Scope) → 1 ≤ l → None ≡ withinLimit (p * l) → None ≡ withinLimit (p * taken s l)
 quantity-over p l Pair h e = e
 quantity-over p l Flight h e = untold (p * l * l) (past (p * l) l h (untold-is (p * l) e)) ∙ ap withinLimit (mul-assoc p l l)
 
-pub quantity-twice : (p l once : ℕ) (s : Scope) {o : Option ℕ} → s ≡ Flight → Some once ≡ withinLimit (p * l) → o ≡ withinLimit (once * l) → o ≡ withinLimit (p * taken l s)
+pub quantity-twice : (p l once : ℕ) (s : Scope) {o : Option ℕ} → s ≡ Flight → Some once ≡ withinLimit (p * l) → o ≡ withinLimit (once * l) → o ≡ withinLimit (p * taken s l)
 quantity-twice p l once s is e f =
-    f ∙ ap withinLimit (ap (λ k. k * l) (told-is once (p * l) e .0) ∙ mul-assoc p l l ∙ sym (ap (λ s. p * taken l s) is))
+    f ∙ ap withinLimit (ap (λ k. k * l) (told-is once (p * l) e .0) ∙ mul-assoc p l l ∙ sym (ap (λ s. p * taken s l) is))
 
 -- the places of the quantities from number i on
 module _ {V C R : Type 0} (m : Meaning V C) (c : Contents V C R) where
   abbrev pub from : ℕ → List (Quantity V) → ℕ
   from i qs = product (map (λ p. length (startsAt m c p)) (placesFrom i qs))
 
-  from-at : (i : ℕ) (q : Quantity V) (s : Scope) (ps : List (Place V)) → product (map (λ p. length (startsAt m c p)) (map (λ s. record { side = s; number = i; quantity = q }) (sides s) ++ ps)) ≡ taken (startsOf m c i (q .least) (q .greatest)) s * product (map (λ p. length (startsAt m c p)) ps)
+  from-at : (i : ℕ) (q : Quantity V) (s : Scope) (ps : List (Place V)) → product (map (λ p. length (startsAt m c p)) (map (λ s. record { side = s; number = i; quantity = q }) (sides s) ++ ps)) ≡ taken s (startsOf m c i (q .least) (q .greatest)) * product (map (λ p. length (startsAt m c p)) ps)
   unfolding startsOf
   from-at i q Flight ps = let l = length (startsAt m c (record { side = OfA; number = i; quantity = q })) in sym (mul-assoc l l (product (map (λ p. length (startsAt m c p)) ps)))
   from-at i q Pair ps = refl
 
-  from-here : (i : ℕ) (q : Quantity V) (qs : List (Quantity V)) → from i (q ∷ qs) ≡ taken (startsOf m c i (q .least) (q .greatest)) (q .scope) * from (suc i) qs
+  from-here : (i : ℕ) (q : Quantity V) (qs : List (Quantity V)) → from i (q ∷ qs) ≡ taken (q .scope) (startsOf m c i (q .least) (q .greatest)) * from (suc i) qs
   from-here i q qs = from-at i q (q .scope) (placesFrom (suc i) qs)
 
   from-some : (i : ℕ) (qs : List (Quantity V)) → 1 ≤ from i qs
   from-some i [] = omega arith
   from-some i (q ∷ qs) =
       let l = startsOf m c i (q .least) (q .greatest) in
-      let a : 1 ≤ taken l (q .scope) * from (suc i) qs = some-more (taken l (q .scope)) (from (suc i) qs) (taken-some l (q .scope) (starts-some m c i (q .least) (q .greatest))) (from-some (suc i) qs) in
+      let a : 1 ≤ taken (q .scope) l * from (suc i) qs = some-more (taken (q .scope) l) (from (suc i) qs) (taken-some l (q .scope) (starts-some m c i (q .least) (q .greatest))) (from-some (suc i) qs) in
       omega (arith, from-here i q qs)
 
   module _ (qs : List (Quantity V)) (n : ℕ) where
@@ -124,7 +125,7 @@ module _ {V C R : Type 0} (m : Meaning V C) (c : Contents V C R) where
     left i = from i (drop i (take n qs))
 
     abbrev here : ℕ → Quantity V → ℕ
-    here i q = taken (startsOf m c i (q .least) (q .greatest)) (q .scope)
+    here i q = taken (q .scope) (startsOf m c i (q .least) (q .greatest))
 
     left-here : (i : ℕ) (d : Quantity V) → n ≤ length qs → i < n → left i ≡ here i (getD qs i d) * left (i + 1)
     left-here i d long h =

@@ -1,13 +1,11 @@
 -- Counting up to the limit. Assumes nothing.
 use mathlib.Core.Bool.{cond}
-use Prim.Native.Nat.{ℕ, _*_}
+use Prim.Native.Nat.{ℕ}
 use lib.Dec.{leb}
 use lib.ListN.{length}
 use Rattle.std.specs.declared.option.Option.{Option}
 use Rattle.std.specs.declared.option.Option.the-variants.{Some, None}
 use Rattle.kinds.specs.Meaning.{Meaning}
-use Rattle.items.specs.declared.Scope.{Scope}
-use Rattle.items.specs.declared.Scope.the-variants.{Flight, Pair}
 use Rattle.tables.specs.Contents.{Contents}
 use Rattle.tables.specs.Starts.{cellsOf, startsOn}
 use Rattle.tables.specs.Issues.{limit}
@@ -19,8 +17,3 @@ withinLimit n = cond (leb n limit) (Some n) None
 -- how many starts quantity i has in a range
 unfoldable pub startsOf : {V C R : Type 0} → Meaning V C → Contents V C R → ℕ → V → V → ℕ
 startsOf m c i least greatest = length (startsOn m (cellsOf c i) greatest least)
-
--- so many starts, at each place of a quantity
-abbrev pub taken : ℕ → Scope → ℕ
-taken n Flight = n * n
-taken n Pair = n

@@ -2,7 +2,8 @@
 ghost use mathlib.Core.Path.{_≡_};
 ghost use Prim.Native.Nat.{_+_, _*_, _≤_, min};
 ghost use Rattle.lists.specs.Held.{seen};
-ghost use Rattle.starts.specs.Counted.{startsOf, taken, withinLimit};
+ghost use Rattle.starts.specs.Counted.{startsOf, withinLimit};
+ghost use Rattle.tables.specs.Bridges.{taken};
 ghost use Rattle.tables.specs.Starts.{count as countOf};
 use crate::next::next_start;
 use items::Quantity;
@@ -65,7 +66,7 @@ fn times_quantity<K: Kind, R: ResultKind>(
     product: u32,
 ) -> Option<u32>
     requires { ⌜ product ≤ 1048576 ⌝ }
-    ensures { λ r. ⌜ r ≡ withinLimit (product * taken (startsOf (K·Kind .meaning) (seen (now (view .entry))) i (q .least) (q .greatest)) (q .scope)) ⌝ }
+    ensures { λ r. ⌜ r ≡ withinLimit (product * taken (q .scope) (startsOf (K·Kind .meaning) (seen (now (view .entry))) i (q .least) (q .greatest))) ⌝ }
 {
     let once = match times_starts(view, i, q.least, q.greatest, product) {
         Some(once) => once,

@@ -30,7 +30,7 @@ returns-then-clashing g c = record {
       let first = c .seek-open .ensures .after ok w n in
       let second = again (g .K·Kind .meaning) (g .R·ResultKind .results) (seen (c .args .view .now)) (g .K·Kind·met .lawful) ok (shown (c .args .at .now)) w (soughtIn (g .K·Kind .meaning) (g .R·ResultKind .results) (seen (c .args .view .now)) Open) (soughtIn (g .K·Kind .meaning) (g .R·ResultKind .results) (seen (c .args .view .now)) Gap) (c .seek-open .result) (c .seek-gap .result) (shown (c .seek-open .last .at)) (shown (c .seek-gap .last .at)) first (c .seek-gap .ensures .after ok (first .lengths) n) in
       let third = again (g .K·Kind .meaning) (g .R·ResultKind .results) (seen (c .args .view .now)) (g .K·Kind·met .lawful) ok (shown (c .args .at .now)) w (soughtIn (g .K·Kind .meaning) (g .R·ResultKind .results) (seen (c .args .view .now)) Gap) (soughtIn (g .K·Kind .meaning) (g .R·ResultKind .results) (seen (c .args .view .now)) Clash) (c .seek-gap .result) (c .seek-clashing .result) (shown (c .seek-gap .last .at)) (shown (c .seek-clashing .last .at)) second (c .seek-clashing .ensures .after ok (second .lengths) n) in
-      clash-shown (g .K·Kind .meaning) (g .R·ResultKind .results) (seen (c .args .view .now)) (g .K·Kind·met .lawful) ok (shown (c .args .at .now)) w first (c .if-not-open .left) second (c .if-gap .left) third (c .if-clashing .taken) (c .clash .ensures ∙ ap (λ e. clashFault (outcome (g .K·Kind .meaning) (g .R·ResultKind .results) (seen (c .args .view .now)) e)) (c .encounter .ensures));
+      clash-shown (g .K·Kind .meaning) (g .R·ResultKind .results) (seen (c .args .view .now)) (g .K·Kind·met .lawful) ok (shown (c .args .at .now)) w first (c .if-not-open .left) second (c .if-gap .left) third (c .if-clashing .taken) (c .clash-fault .ensures ∙ ap (λ e. clashFault (outcome (g .K·Kind .meaning) (g .R·ResultKind .results) (seen (c .args .view .now)) e)) (c .encounter-shown .ensures));
   lent = same-on (same-on (c .seek-open .ensures .lent) (c .seek-gap .ensures .lent)) (c .seek-clashing .ensures .lent);
 }
 
