@@ -1,4 +1,2 @@
-// Two flights at a common point: where they are, and by how much they keep their minima.
-pub mod fix;
+// By how much two flights keep their minima.
 pub mod margin;
-pub mod verdict;

@@ -4,8 +4,8 @@ ghost use lib.Signed.{_≤ℤ_};
 ghost use mathlib.Core.Path.{_≡_};
 ghost use Rattle.tables.specs.Margins.{difference as differenceOf, lateralMargin, marginAt, minutesAfter, oppositeMargin, sameMargin, verticalMargin};
 ghost use Rattle.std.specs.Numbers.{minZ};
-use crate::fix::Fix;
-use crate::fix::Passing;
+use fixes::fix::Fix;
+use fixes::fix::Passing;
 use results::figure::Figure;
 use results::period::Period;
 

@@ -21,11 +21,11 @@ use Rattle.tables.specs.Storage.{inOrder}
 use Rattle.tables.specs.Margins.{difference}
 use Rattle.tables.proofs.Looking.{looked-up-rightly}
 use Rattle.tables.proofs.Margining.{margins-mean}
-use Rattle.margins.specs.Limits.{fixInLimits, passingInLimits}
-use Rattle.margins.specs.declared.fix.Direction.{Direction}
-use Rattle.margins.specs.declared.fix.Direction.the-variants.{Same, Opposite}
-use Rattle.margins.specs.declared.fix.Fix.{Fix}
-use Rattle.margins.specs.declared.fix.Passing.{Passing}
+use Rattle.fixes.specs.Limits.{fixInLimits, passingInLimits}
+use Rattle.fixes.specs.declared.fix.Direction.{Direction}
+use Rattle.fixes.specs.declared.fix.Direction.the-variants.{Same, Opposite}
+use Rattle.fixes.specs.declared.fix.Fix.{Fix}
+use Rattle.fixes.specs.declared.fix.Passing.{Passing}
 use Rattle.probe.specs.declared.fault.Letter.the-variants.{V, L, G, N}
 use Rattle.probe.specs.declared.fault.ProbeFault.{ProbeFault}
 use Rattle.probe.specs.declared.fault.ProbeFault.the-variants.{Limits}

@@ -7,10 +7,10 @@ use Rattle.results.specs.Figures.{figures}
 use Rattle.results.specs.Periods.{periods}
 use Rattle.tables.specs.Contents.{Encounter, InRange, whole}
 use Rattle.tables.specs.Faultless.{Faultless}
-use Rattle.margins.specs.declared.fix.Direction.{Direction}
-use Rattle.margins.specs.declared.fix.Direction.the-variants.{Same, Opposite}
-use Rattle.margins.specs.declared.fix.Fix.{Fix}
-use Rattle.margins.specs.declared.fix.Passing.{Passing}
+use Rattle.fixes.specs.declared.fix.Direction.{Direction}
+use Rattle.fixes.specs.declared.fix.Direction.the-variants.{Same, Opposite}
+use Rattle.fixes.specs.declared.fix.Fix.{Fix}
+use Rattle.fixes.specs.declared.fix.Passing.{Passing}
 use Rattle.probe.specs.Probed.{Source, Four, held, probed}
 
 abbrev pub exchanged : {X : Type 0} → Encounter X → Encounter X

@@ -17,12 +17,12 @@ use Rattle.tables.specs.Contents.{Contents, Encounter}
 use Rattle.tables.specs.Margins.{verticalMargin, lateralMargin, sameMargin, oppositeMargin}
 use Rattle.tables.specs.Storage.{Lists, contentsOf}
 use Rattle.lists.specs.Held.{listsOf}
-use Rattle.margins.specs.Limits.{fixInLimits, passingInLimits}
-use Rattle.margins.specs.declared.fix.Direction.{Direction}
-use Rattle.margins.specs.declared.fix.Direction.the-variants.{Same, Opposite}
-use Rattle.margins.specs.declared.fix.Fix.{Fix}
-use Rattle.margins.specs.declared.fix.Passing.{Passing}
-use Rattle.margins.specs.declared.verdict.Verdict.{Verdict}
+use Rattle.fixes.specs.Limits.{fixInLimits, passingInLimits}
+use Rattle.fixes.specs.declared.fix.Direction.{Direction}
+use Rattle.fixes.specs.declared.fix.Direction.the-variants.{Same, Opposite}
+use Rattle.fixes.specs.declared.fix.Fix.{Fix}
+use Rattle.fixes.specs.declared.fix.Passing.{Passing}
+use Rattle.fixes.specs.declared.verdict.Verdict.{Verdict}
 use Rattle.probe.specs.declared.fault.Letter.the-variants.{V, L, G, N}
 use Rattle.probe.specs.declared.fault.Lettered.{Lettered}
 use Rattle.probe.specs.declared.fault.ProbeFault.{ProbeFault}

@@ -6,11 +6,11 @@ ghost use Rattle.probe.specs.Probed.{four, probed};
 use crate::fault::ProbeFault;
 use crate::fault::ProbeFromLettered;
 use crate::minima::Sheets;
+use fixes::fix::Fix;
+use fixes::fix::Passing;
+use fixes::verdict::Verdict;
 use kinds::Kind;
 use lists::lent::Encounter;
-use margins::fix::Fix;
-use margins::fix::Passing;
-use margins::verdict::Verdict;
 
 // The limits are asked first, then the sheets, and the margins come last.
 fn answer<K: Kind>(

@@ -2,9 +2,9 @@
 use mathlib.Core.Bool.{Bool, _&&_}
 use lib.IntN.{ℤ, pos, negsuc}
 use lib.Signed.{leZ}
-use Rattle.margins.specs.declared.fix.Fix.{Fix}
-use Rattle.margins.specs.declared.fix.Passing.{Passing}
-use Rattle.margins.specs.declared.verdict.Verdict.{Verdict}
+use Rattle.fixes.specs.declared.fix.Fix.{Fix}
+use Rattle.fixes.specs.declared.fix.Passing.{Passing}
+use Rattle.fixes.specs.declared.verdict.Verdict.{Verdict}
 use Rattle.tables.specs.Margins.{separated}
 
 -- from one number to another, both included

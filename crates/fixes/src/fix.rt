@@ -1,6 +1,6 @@
 // Where each flight is, and when the two pass.
 ghost use mathlib.Core.Path.{_≡_};
-ghost use Rattle.margins.specs.Limits.{between, fixInLimits, passingInLimits};
+ghost use Rattle.fixes.specs.Limits.{between, fixInLimits, passingInLimits};
 
 // A flight: its level in hundreds of feet, its lateral position in tenths of a nautical mile, and
 // its time over the common point in seconds.

@@ -1,6 +1,6 @@
 // What a probe finds.
 ghost use mathlib.Core.Path.{_≡_};
-ghost use Rattle.margins.specs.Limits.{isSeparated};
+ghost use Rattle.fixes.specs.Limits.{isSeparated};
 
 // The three margins: feet, tenths of a nautical mile, and seconds.
 #[derive(Clone, Copy)]
