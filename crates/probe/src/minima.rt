@@ -31,11 +31,11 @@ pub struct Sheet<'a, 'b, K: Kind, R> {
 
 // The four sheets of a probe.
 #[derive(Drop)]
-pub struct Sheets<'a, 'b, K: Kind> {
-    pub v: Sheet<'a, 'b, K, Figure>,
-    pub l: Sheet<'a, 'b, K, Figure>,
-    pub g: Sheet<'a, 'b, K, Figure>,
-    pub n: Sheet<'a, 'b, K, Period>,
+pub struct Sheets<'a, 'v, 'l, 'g, 'n, K: Kind> {
+    pub v: Sheet<'a, 'v, K, Figure>,
+    pub l: Sheet<'a, 'l, K, Figure>,
+    pub g: Sheet<'a, 'g, K, Figure>,
+    pub n: Sheet<'a, 'n, K, Period>,
 }
 
 // A minimum along the way: between flights in trail, or about the time at which they pass.
@@ -52,7 +52,7 @@ pub struct Minima {
     pub along: Along,
 }
 
-impl<'a, 'b, K: Kind> Sheets<'a, 'b, K> {
+impl<'a, 'v, 'l, 'g, 'n, K: Kind> Sheets<'a, 'v, 'l, 'g, 'n, K> {
     // The minimum along the way. The sheet of the other direction is asked nothing.
     fn along(&self, direction: Direction, e: &Encounter<'_, K::Value>) -> Result<Along, Lettered>
         ensures { λ r. ⌜ r ≡ alongOf (K·Kind .meaning) (four (now (self .entry))) (encounterOf (now (e .entry))) direction ⌝ }

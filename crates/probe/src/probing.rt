@@ -14,7 +14,7 @@ use lists::lent::Encounter;
 
 // The limits are asked first, then the sheets, and the margins come last.
 fn answer<K: Kind>(
-    sheets: &Sheets<'_, '_, K>,
+    sheets: &Sheets<'_, '_, '_, '_, '_, K>,
     e: &Encounter<'_, K::Value>,
     a: Fix,
     b: Fix,
@@ -32,7 +32,7 @@ fn answer<K: Kind>(
 // The margins of two flights, A and B, in an encounter. Over sheets without fault, with the
 // encounter in range for those looked up, the exchanged flights get the same answer.
 pub fn probe<K: Kind>(
-    sheets: &Sheets<'_, '_, K>,
+    sheets: &Sheets<'_, '_, '_, '_, '_, K>,
     e: &Encounter<'_, K::Value>,
     a: Fix,
     b: Fix,
