@@ -18,7 +18,7 @@ use Rattle.tables.specs.Contents.{Contents, Encounter, places, whole}
 use Rattle.tables.specs.Acceptance.{Acceptable}
 use Rattle.tables.specs.Outcomes.{Outcome, barred, gap, clash, answer, outcome, isBarred, isGap, isClash, symmetric}
 use Rattle.tables.specs.Starts.{count, fromStarts, reset}
-use Rattle.tables.specs.Issues.{Issue, tooMany, shortLists, allBarred, shownGap, shownAsymmetry, accepted, answered, written, limit, ifGap, ifClash, gapAt, clashAt, asymmetryAt, everyBarred, searched, issue}
+use Rattle.tables.specs.Issues.{Issue, tooMany, shortLists, allBarred, shownGap, shownAsymmetry, accepted, answered, written, limit, ifGap, ifClash, gapAt, clashAt, asymmetryAt, everyBarred, examined, issue}
 use Rattle.tables.proofs.Lists.{none-some, some-same}
 use Rattle.starts.specs.Counted.{withinLimit}
 use Rattle.seeking.specs.declared.sought.Sought.the-variants.{Open, Gap, Clash, Asymmetry}
@@ -83,14 +83,14 @@ module _ {V C R : Type 0} (m : Meaning V C) (r : Results R) (c : Contents V C R)
   decided o g k a = cond (not (isSome o)) allBarred (valueOr (mapped shownGap g) (valueOr (clashOn k) (valueOr (mapped shownAsymmetry a) (accepted (count m c)))))
 
   module _ (es : List (Encounter V)) where
-    decided-is : searched m r c es ≡ decided (firstOf (soughtIn m r c Open) es) (firstOf (soughtIn m r c Gap) es) (firstOf (soughtIn m r c Clash) es) (firstOf (soughtIn m r c Asymmetry) es)
+    decided-is : examined m r c es ≡ decided (firstOf (soughtIn m r c Open) es) (firstOf (soughtIn m r c Gap) es) (firstOf (soughtIn m r c Clash) es) (firstOf (soughtIn m r c Asymmetry) es)
     decided-is =
         ap (λ b. cond b allBarred (valueOr (first (gapAt m r c) es) (valueOr (first (clashAt m r c) es) (valueOr (first (asymmetryAt m r c) es) (accepted (count m c)))))) (every-is es)
         ∙ ap (λ g. cond (not (isSome (firstOf (soughtIn m r c Open) es))) allBarred (valueOr g (valueOr (first (clashAt m r c) es) (valueOr (first (asymmetryAt m r c) es) (accepted (count m c)))))) (gap-is es)
         ∙ ap (λ k. cond (not (isSome (firstOf (soughtIn m r c Open) es))) allBarred (valueOr (mapped shownGap (firstOf (soughtIn m r c Gap) es)) (valueOr k (valueOr (first (asymmetryAt m r c) es) (accepted (count m c)))))) (clash-is es)
         ∙ ap (λ a. cond (not (isSome (firstOf (soughtIn m r c Open) es))) allBarred (valueOr (mapped shownGap (firstOf (soughtIn m r c Gap) es)) (valueOr (clashOn (firstOf (soughtIn m r c Clash) es)) (valueOr a (accepted (count m c)))))) (asymmetry-is es)
 
-    settled : {o g k a : Option (Encounter V)} → firstOf (soughtIn m r c Open) es ≡ o → firstOf (soughtIn m r c Gap) es ≡ g → firstOf (soughtIn m r c Clash) es ≡ k → firstOf (soughtIn m r c Asymmetry) es ≡ a → searched m r c es ≡ decided o g k a
+    settled : {o g k a : Option (Encounter V)} → firstOf (soughtIn m r c Open) es ≡ o → firstOf (soughtIn m r c Gap) es ≡ g → firstOf (soughtIn m r c Clash) es ≡ k → firstOf (soughtIn m r c Asymmetry) es ≡ a → examined m r c es ≡ decided o g k a
     settled {o} {g} {k} {a} ho hg hk ha =
         decided-is ∙ ap (λ o. decided o (firstOf (soughtIn m r c Gap) es) (firstOf (soughtIn m r c Clash) es) (firstOf (soughtIn m r c Asymmetry) es)) ho
         ∙ ap (λ g. decided o g (firstOf (soughtIn m r c Clash) es) (firstOf (soughtIn m r c Asymmetry) es)) hg
@@ -111,20 +111,20 @@ module _ {V C R : Type 0} (m : Meaning V C) (r : Results R) (c : Contents V C R)
 
   -- before the questions over the encounters
   pub short : (lent : Encounter V) → whole lent ≡ false → Found m r c lent (issue m r c lent) (Err EncounterLists) lent
-  short lent h = found lent (issue m r c lent) shortLists lent (cond-false (whole lent) (cond (leb (count m c) limit) (searched m r c (fromStarts m c lent)) tooMany) shortLists h) refl
+  short lent h = found lent (issue m r c lent) shortLists lent (cond-false (whole lent) (cond (leb (count m c) limit) (examined m r c (fromStarts m c lent)) tooMany) shortLists h) refl
 
   pub many : (lent : Encounter V) → whole lent ≡ true → None ≡ withinLimit (count m c) → Found m r c lent (issue m r c lent) (Err TooManyEncounters) lent
   many lent h n = found lent (issue m r c lent) tooMany lent
-      (cond-true (whole lent) (cond (leb (count m c) limit) (searched m r c (fromStarts m c lent)) tooMany) shortLists h
-      ∙ cond-both (leb (count m c) limit) (Some (count m c)) None (λ o. None ≡ o → cond (leb (count m c) limit) (searched m r c (fromStarts m c lent)) tooMany ≡ tooMany)
-      (λ _ k. none-some (count m c) k) (λ f _. cond-false (leb (count m c) limit) (searched m r c (fromStarts m c lent)) tooMany f) n) refl
+      (cond-true (whole lent) (cond (leb (count m c) limit) (examined m r c (fromStarts m c lent)) tooMany) shortLists h
+      ∙ cond-both (leb (count m c) limit) (Some (count m c)) None (λ o. None ≡ o → cond (leb (count m c) limit) (examined m r c (fromStarts m c lent)) tooMany ≡ tooMany)
+      (λ _ k. none-some (count m c) k) (λ f _. cond-false (leb (count m c) limit) (examined m r c (fromStarts m c lent)) tooMany f) n) refl
 
-  pub few : (lent : Encounter V) (n : ℕ) → whole lent ≡ true → Some n ≡ withinLimit (count m c) → (n ≡ count m c) × (searched m r c (fromStarts m c lent) ≡ issue m r c lent)
-  few lent n h e = cond-both (leb (count m c) limit) (Some (count m c)) None (λ o. Some n ≡ o → (n ≡ count m c) × (searched m r c (fromStarts m c lent) ≡ issue m r c lent))
+  pub few : (lent : Encounter V) (n : ℕ) → whole lent ≡ true → Some n ≡ withinLimit (count m c) → (n ≡ count m c) × (examined m r c (fromStarts m c lent) ≡ issue m r c lent)
+  few lent n h e = cond-both (leb (count m c) limit) (Some (count m c)) None (λ o. Some n ≡ o → (n ≡ count m c) × (examined m r c (fromStarts m c lent) ≡ issue m r c lent))
       (λ f k. (
         some-same n (count m c) k,
-        sym (cond-true (whole lent) (cond (leb (count m c) limit) (searched m r c (fromStarts m c lent)) tooMany) shortLists h
-            ∙ cond-true (leb (count m c) limit) (searched m r c (fromStarts m c lent)) tooMany f),
+        sym (cond-true (whole lent) (cond (leb (count m c) limit) (examined m r c (fromStarts m c lent)) tooMany) shortLists h
+            ∙ cond-true (leb (count m c) limit) (examined m r c (fromStarts m c lent)) tooMany f),
       ))
       (λ _ k. none-some n (sym k)) e
 
@@ -150,27 +150,27 @@ module _ {V C R : Type 0} (m : Meaning V C) (r : Results R) (c : Contents V C R)
     none : {f : Encounter V → Bool} {b : Bool} {e : Encounter V} → Sought f b e → b ≡ false → (firstOf f es ≡ None) × (e ≡ least)
     none {f} {b} {e} h gone = ended-none (firstOf f es) b e least (h .told) (h .shows) gone
 
-    pub barred-found : {b : Bool} {e : Encounter V} → Sought (soughtIn m r c Open) b e → b ≡ false → Found m r c lent (searched m r c es) (Err AllBarred) e
+    pub barred-found : {b : Bool} {e : Encounter V} → Sought (soughtIn m r c Open) b e → b ≡ false → Found m r c lent (examined m r c es) (Err AllBarred) e
     barred-found {b} {e} h gone =
-        found lent (searched m r c es) allBarred e (settled es (none h gone .0) refl refl refl) (none h gone .1)
+        found lent (examined m r c es) allBarred e (settled es (none h gone .0) refl refl refl) (none h gone .1)
 
-    pub gap-found : {b t : Bool} {x e : Encounter V} → Sought (soughtIn m r c Open) b x → b ≡ true → Sought (soughtIn m r c Gap) t e → t ≡ true → Found m r c lent (searched m r c es) (Err GapFault) e
-    gap-found {e = e} h there k is = found lent (searched m r c es) (shownGap e) e (settled es (some h there) (some k is) refl refl) refl
+    pub gap-found : {b t : Bool} {x e : Encounter V} → Sought (soughtIn m r c Open) b x → b ≡ true → Sought (soughtIn m r c Gap) t e → t ≡ true → Found m r c lent (examined m r c es) (Err GapFault) e
+    gap-found {e = e} h there k is = found lent (examined m r c es) (shownGap e) e (settled es (some h there) (some k is) refl refl) refl
 
     pub clash-shown : {b t u : Bool} {x y e : Encounter V} {f : SheetFault} → Sought (soughtIn m r c Open) b x → b ≡ true → Sought (soughtIn m r c Gap) t y → t ≡ false → Sought (soughtIn m r c Clash) u e → u ≡ true
-        → f ≡ clashFault (outcome m r c e) → Found m r c lent (searched m r c es) (Err f) e
+        → f ≡ clashFault (outcome m r c e) → Found m r c lent (examined m r c es) (Err f) e
     clash-shown {e = e} h there k gone l is named =
         let d : Issue V = valueOr (mapped shownAsymmetry (firstOf (soughtIn m r c Asymmetry) es)) (accepted (count m c)) in
-        let at : searched m r c es ≡ valueOr (ifClash e (outcome m r c e)) d = settled es (some h there) (none k gone .0) (some l is) refl in
+        let at : examined m r c es ≡ valueOr (ifClash e (outcome m r c e)) d = settled es (some h there) (none k gone .0) (some l is) refl in
         let t = clash-found lent (outcome m r c e) e d (first-holds (soughtIn m r c Clash) es e (some l is)) in
         record { answer = ap Err named ∙ t .0 ∙ sym (ap answered at); writes = t .1 ∙ sym (ap (written m r c lent) at) }
 
     pub asymmetry-found : {b t u v : Bool} {x y z e : Encounter V} → Sought (soughtIn m r c Open) b x → b ≡ true → Sought (soughtIn m r c Gap) t y → t ≡ false → Sought (soughtIn m r c Clash) u z → u ≡ false
-        → Sought (soughtIn m r c Asymmetry) v e → v ≡ true → Found m r c lent (searched m r c es) (Err AsymmetryFault) e
-    asymmetry-found {e = e} h there k gone l out a is = found lent (searched m r c es) (shownAsymmetry e) e (settled es (some h there) (none k gone .0) (none l out .0) (some a is)) refl
+        → Sought (soughtIn m r c Asymmetry) v e → v ≡ true → Found m r c lent (examined m r c es) (Err AsymmetryFault) e
+    asymmetry-found {e = e} h there k gone l out a is = found lent (examined m r c es) (shownAsymmetry e) e (settled es (some h there) (none k gone .0) (none l out .0) (some a is)) refl
 
     pub none-found : {b t u v : Bool} {x y z e : Encounter V} (n : ℕ) → n ≡ count m c → Sought (soughtIn m r c Open) b x → b ≡ true → Sought (soughtIn m r c Gap) t y → t ≡ false → Sought (soughtIn m r c Clash) u z → u ≡ false
-        → Sought (soughtIn m r c Asymmetry) v e → v ≡ false → Found m r c lent (searched m r c es) (Ok n) e
+        → Sought (soughtIn m r c Asymmetry) v e → v ≡ false → Found m r c lent (examined m r c es) (Ok n) e
     none-found {e = e} n is h there k gone l out a end =
-        subst (λ n. Found m r c lent (searched m r c es) (Ok n) e) (sym is)
-        (found lent (searched m r c es) (accepted (count m c)) e (settled es (some h there) (none k gone .0) (none l out .0) (none a end .0)) (none a end .1))
+        subst (λ n. Found m r c lent (examined m r c es) (Ok n) e) (sym is)
+        (found lent (examined m r c es) (accepted (count m c)) e (settled es (some h there) (none k gone .0) (none l out .0) (none a end .0)) (none a end .1))

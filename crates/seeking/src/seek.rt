@@ -6,7 +6,7 @@ ghost use Rattle.lists.specs.Held.{SameShowing, encounterOf, seen, shown};
 ghost use Rattle.seeking.specs.Seeks.{Ended, Found, clashFault, soughtIn};
 ghost use Rattle.tables.specs.Acceptance.{Acceptable};
 ghost use Rattle.tables.specs.Contents.{places, whole};
-ghost use Rattle.tables.specs.Issues.{issue, searched};
+ghost use Rattle.tables.specs.Issues.{issue, examined};
 ghost use Rattle.tables.specs.Outcomes.{outcome as outcomeIn};
 ghost use Rattle.tables.specs.Starts.{count as countOf, fromStarts, remaining, reset as resetOf};
 ghost use lib.ListN.{length};
@@ -92,7 +92,7 @@ fn questions<K: Kind, R: ResultKind>(
     ensures found { λ r. ⌜ (Acceptable (K·Kind .meaning) (R·ResultKind .results) (seen (now (view .entry))) → whole (shown (now (at .entry))) ≡ true
         → count ≡ countOf (K·Kind .meaning) (seen (now (view .entry)))
         → Found (K·Kind .meaning) (R·ResultKind .results) (seen (now (view .entry))) (shown (now (at .entry)))
-        (searched (K·Kind .meaning) (R·ResultKind .results) (seen (now (view .entry))) (fromStarts (K·Kind .meaning) (seen (now (view .entry))) (shown (now (at .entry))))) r (shown (now (at .exit)))) ⌝ }
+        (examined (K·Kind .meaning) (R·ResultKind .results) (seen (now (view .entry))) (fromStarts (K·Kind .meaning) (seen (now (view .entry))) (shown (now (at .entry))))) r (shown (now (at .exit)))) ⌝ }
     ensures lent { λ _. ⌜ SameShowing (now (at .entry)) (now (at .exit)) ⌝ }
 {
     let open = seek(view, count, Sought::Open, at);

@@ -18,7 +18,7 @@ use Rattle.tables.specs.Contents.{Contents, Encounter, InRange, whole, exchang
 use Rattle.tables.specs.Acceptance.{Acceptable}
 use Rattle.tables.specs.Outcomes.{Outcome, barred, gap, clash, answer, outcome, isBarred, answers, alike, symmetric}
 use Rattle.tables.specs.Starts.{count, fromStarts}
-use Rattle.tables.specs.Issues.{Issue, shortLists, tooMany, allBarred, shownGap, shownClash, shownAsymmetry, accepted, refused, limit, ifGap, ifClash, gapAt, clashAt, asymmetryAt, everyBarred, searched, issue}
+use Rattle.tables.specs.Issues.{Issue, shortLists, tooMany, allBarred, shownGap, shownClash, shownAsymmetry, accepted, refused, limit, ifGap, ifClash, gapAt, clashAt, asymmetryAt, everyBarred, examined, issue}
 use Rattle.tables.specs.Faultless.{EachInRange, SomeInRange, NoneInRange, Barred, Unbarred, Gap, Clash, Asymmetry, Faulty, Faultless}
 use Rattle.tables.specs.Issued.{Earliest, Searched, Says, IssuedRightly}
 use Rattle.tables.proofs.Lists.{none-some, some-same, all-any, cut-here, cut-weaker, FirstBy, first-or}
@@ -121,8 +121,8 @@ module _ {V C R : Type 0} (m : Meaning V C) (law : Lawful m) (r : Results R) (eq
       shown = refl;
     }
 
-    searched-says : Says m r c lent (searched m r c es)
-    searched-says =
+    examined-says : Says m r c lent (examined m r c es)
+    examined-says =
         cond-both (everyBarred m r c es) allBarred _ (Says m r c lent)
         (λ t. (s, carried (λ o _. o ≡ barred) (every-barred es t)))
         (λ f. let some = some-unbarred es all-in f in
@@ -143,8 +143,8 @@ module _ {V C R : Type 0} (m : Meaning V C) (law : Lawful m) (r : Results R) (eq
   pub issue-says : Says m r c lent (issue m r c lent)
   issue-says =
       cond-both (whole lent) _ shortLists (Says m r c lent)
-      (λ w. cond-both (leb (count m c) limit) (searched m r c (fromStarts m c lent)) tooMany (Says m r c lent)
-      (λ l. searched-says (record { lengths = w; few = leb-true (count m c) limit l })) (λ f. (w, leb-false (count m c) limit f)))
+      (λ w. cond-both (leb (count m c) limit) (examined m r c (fromStarts m c lent)) tooMany (Says m r c lent)
+      (λ l. examined-says (record { lengths = w; few = leb-true (count m c) limit l })) (λ f. (w, leb-false (count m c) limit f)))
       (λ f. f)
 
   has-fault : (P : Encounter V → Type 0) (e : Encounter V) → Earliest m r c lent P e → SomeInRange m r c P

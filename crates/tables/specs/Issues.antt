@@ -44,7 +44,7 @@ answered = elim [
 abbrev pub refused : {V : Type 0} → Issue V → Bool
 refused i = isErr (answered i)
 
--- the greatest count that issue searches
+-- the greatest count that issue goes through
 abbrev pub limit : ℕ
 limit = 1048576
 
@@ -70,12 +70,12 @@ module _ {V C R : Type 0} (m : Meaning V C) (r : Results R) (c : Contents V C R)
   everyBarred (e ∷ es) = isBarred r (outcome m r c e) && everyBarred es
 
   -- the earliest with the fault, gaps first, then clashes, then asymmetries
-  abbrev pub searched : List (Encounter V) → Issue V
-  searched es = cond (everyBarred es) allBarred
+  abbrev pub examined : List (Encounter V) → Issue V
+  examined es = cond (everyBarred es) allBarred
       (valueOr (first gapAt es) (valueOr (first clashAt es) (valueOr (first asymmetryAt es) (accepted (count m c)))))
 
   abbrev pub issue : Encounter V → Issue V
-  issue e = let found = searched (fromStarts m c e) in cond (whole e) (cond (leb (count m c) limit) found tooMany) shortLists
+  issue e = let found = examined (fromStarts m c e) in cond (whole e) (cond (leb (count m c) limit) found tooMany) shortLists
 
   -- the encounter lists after the answer, of which e are those before it
   abbrev pub written : Encounter V → Issue V → Encounter V

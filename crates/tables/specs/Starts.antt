@@ -75,7 +75,7 @@ module _ {V C : Type 0} (m : Meaning V C) where
     abbrev pub fromStarts : Encounter V → List (Encounter V)
     fromStarts e = choices (places c) e
 
-    -- The search goes through them one by one: all places at their least, and then on.
+    -- Issue goes through them one by one: all places at their least, and then on.
     abbrev pub reset : List (Place V) → Encounter V → Encounter V
     reset [] e = e
     reset (p ∷ ps) e = reset ps (putAt p (p .quantity .least) e)

@@ -37,13 +37,13 @@ pub fn starts_are_the_stops<K: Kind>() -> u8
 }
 
 // Each encounter in range has the outcomes of one made of starts. Those are as many as the count,
-// the product of the numbers of starts, and stand in order; the search from the least values on
+// the product of the numbers of starts, and stand in order; the way from the least values on
 // comes to all of them.
 pub fn starts_stand_for_all<K: Kind, R: ResultKind>() -> u8
     ensures bridge { λ _. ⌜ ((c : Contents K·Value K·Cell R) → Acceptable (K·Kind .meaning) (R·ResultKind .results) c → Bridge (K·Kind .meaning) (R·ResultKind .results) c) ⌝ }
     ensures counted { λ _. ⌜ ((c : Contents K·Value K·Cell R) → Acceptable (K·Kind .meaning) (R·ResultKind .results) c → CountIsProduct (K·Kind .meaning) (R·ResultKind .results) c) ⌝ }
     ensures made { λ _. ⌜ ((c : Contents K·Value K·Cell R) → Acceptable (K·Kind .meaning) (R·ResultKind .results) c → MadeOfStarts (K·Kind .meaning) (R·ResultKind .results) c) ⌝ }
-    ensures searched { λ _. ⌜ ((c : Contents K·Value K·Cell R) → Acceptable (K·Kind .meaning) (R·ResultKind .results) c → OneByOne (K·Kind .meaning) (R·ResultKind .results) c) ⌝ }
+    ensures examined { λ _. ⌜ ((c : Contents K·Value K·Cell R) → Acceptable (K·Kind .meaning) (R·ResultKind .results) c → OneByOne (K·Kind .meaning) (R·ResultKind .results) c) ⌝ }
 {
     0
 }

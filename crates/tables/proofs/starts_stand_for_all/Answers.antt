@@ -8,4 +8,4 @@ returns g c =
     let m = g .K·Kind .meaning in
     let law = g .K·Kind·met .lawful in
     let r = g .R·ResultKind .results in
-    record { bridge = bridge m law r; counted = count-is-product m law r; made = made-of-starts m law r; searched = one-by-one m law r }
+    record { bridge = bridge m law r; counted = count-is-product m law r; made = made-of-starts m law r; examined = one-by-one m law r }

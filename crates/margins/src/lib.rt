@@ -1,0 +1,2 @@
+// By how much two flights keep their minima.
+pub mod margin;

@@ -1,0 +1,3 @@
+pub mod Lettering
+pub mod Probed
+pub mod Exchanged
