@@ -1,3 +1,2 @@
-mod Turns
 mod Seeking
 mod Questions

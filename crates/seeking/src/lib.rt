@@ -1,4 +1,3 @@
-// The way through the encounters made of starts, and the earliest with a fault.
-mod odometer;
+// The earliest encounter made of starts that has a fault.
 pub mod seek;
 mod sought;

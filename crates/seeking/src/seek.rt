@@ -10,8 +10,6 @@ ghost use Rattle.tables.specs.Issues.{issue, examined};
 ghost use Rattle.tables.specs.Outcomes.{outcome as outcomeIn};
 ghost use Rattle.tables.specs.Starts.{count as countOf, fromStarts, remaining, reset as resetOf};
 ghost use lib.ListN.{length};
-use crate::odometer::reset;
-use crate::odometer::turn;
 use crate::sought::Sought;
 use crate::sought::is_sought;
 use faults::SheetFault;
@@ -23,6 +21,8 @@ use outcomes::judge::outcome;
 use outcomes::outcome::Outcome;
 use results::ResultKind;
 use starts::count::count;
+use turning::odometer::reset;
+use turning::odometer::turn;
 
 // Goes on from the encounter shown, of which and after which there are `count` in all, to the
 // earliest one that is sought; where there is none, the needed values are at their least.

@@ -3,7 +3,7 @@ use Rattle.tables.specs.Outcomes.{outcome}
 use Rattle.lists.specs.Held.{seen, shown}
 use Rattle.seeking.specs.declared.sought.Sought.the-variants.{Open, Gap, Clash, Asymmetry}
 use Rattle.seeking.specs.Seeks.{soughtIn, clashFault}
-use Rattle.seeking.proofs.Turns.{same-on}
+use Rattle.turning.proofs.Turns.{same-on}
 use Rattle.seeking.proofs.Questions.{again, barred-found, gap-found, clash-shown, asymmetry-found, none-found}
 use Rattle.seeking.proofs.seek.questions.Needs as need
 

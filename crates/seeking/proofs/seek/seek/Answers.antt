@@ -3,7 +3,7 @@ use mathlib.Core.Bool.{true}
 use Rattle.tables.specs.Contents.{places, whole}
 use Rattle.lists.specs.Held.{seen, shown}
 use Rattle.seeking.specs.Seeks.{soughtIn}
-use Rattle.seeking.proofs.Turns.{same-on}
+use Rattle.turning.proofs.Turns.{same-on}
 use Rattle.seeking.proofs.Seeking.{reset-whole, counted, from-least}
 use Rattle.seeking.proofs.seek.seek.Needs as need
 

@@ -1,7 +1,7 @@
 use mathlib.Core.Path.{_≡_, refl, ap, _∙_}
 use Rattle.lists.specs.Held.{seen, shown}
 use Rattle.seeking.specs.Seeks.{soughtIn}
-use Rattle.seeking.proofs.Turns.{same-on}
+use Rattle.turning.proofs.Turns.{same-on}
 use Rattle.seeking.proofs.Seeking.{begun, hit, step, over, unfinished}
 use Rattle.seeking.proofs.seek.seek_on.Needs as need
 

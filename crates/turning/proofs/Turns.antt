@@ -16,7 +16,7 @@ use Rattle.tables.specs.Starts.{reset, turned, turnedAt, nextAt}
 use Rattle.lists.specs.Held.{SameShowing}
 use Rattle.lists.specs.declared.lent.Showing.{Showing}
 use Rattle.outcomes.proofs.Left.{front-here, front-end}
-use Rattle.seeking.specs.Turning.{atLeast, placesOf}
+use Rattle.turning.specs.Turning.{atLeast, placesOf}
 
 pub same-on : {V : Type 0} {a b c : Showing V} → SameShowing a b → SameShowing b c → SameShowing a c
 same-on f s = record { a = s .a ∙ f .a; b = s .b ∙ f .b; pair = s .pair ∙ f .pair }

@@ -3,7 +3,7 @@
 ghost use mathlib.Core.List.{[], _∷_};
 ghost use mathlib.Core.Path.{_≡_};
 ghost use Rattle.lists.specs.Held.{SameShowing, seen, shown};
-ghost use Rattle.seeking.specs.Turning.{atLeast, moved, nextOf, placesOf};
+ghost use Rattle.turning.specs.Turning.{atLeast, moved, nextOf, placesOf};
 ghost use Rattle.tables.specs.Contents.{places};
 ghost use Rattle.tables.specs.Starts.{reset as resetOf, turned};
 use items::Quantity;
@@ -27,7 +27,7 @@ fn reset_quantity<V: Copy>(i: usize, q: Quantity<V>, at: &mut Showing<'_, V>)
 }
 
 // Puts every needed value to its least.
-pub(crate) fn reset<K: Kind, R: ResultKind>(view: &View<'_, K, R>, at: &mut Showing<'_, K::Value>)
+pub fn reset<K: Kind, R: ResultKind>(view: &View<'_, K, R>, at: &mut Showing<'_, K::Value>)
     ensures after { λ _. ⌜ shown (now (at .exit)) ≡ resetOf (K·Kind .meaning) (seen (now (view .entry))) (places (seen (now (view .entry)))) (shown (now (at .entry))) ⌝ }
     ensures lent { λ _. ⌜ SameShowing (now (at .entry)) (now (at .exit)) ⌝ }
 {
@@ -112,10 +112,7 @@ fn turn_quantity<K: Kind, R: ResultKind>(
 }
 
 // Goes on to the next encounter made of starts; after the last one, back to the first and false.
-pub(crate) fn turn<K: Kind, R: ResultKind>(
-    view: &View<'_, K, R>,
-    at: &mut Showing<'_, K::Value>,
-) -> bool
+pub fn turn<K: Kind, R: ResultKind>(view: &View<'_, K, R>, at: &mut Showing<'_, K::Value>) -> bool
     ensures after { λ r. ⌜ (r, shown (now (at .exit))) ≡ turned (K·Kind .meaning) (seen (now (view .entry))) (places (seen (now (view .entry)))) (shown (now (at .entry))) ⌝ }
     ensures lent { λ _. ⌜ SameShowing (now (at .entry)) (now (at .exit)) ⌝ }
 {

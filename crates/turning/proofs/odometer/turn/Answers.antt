@@ -3,8 +3,8 @@ use Prim.Native.Nat.{_-_, _≤_, _<_}
 use native.Mathlib.Omega.{arith}
 use lib.ListN.{length}
 use Rattle.lists.specs.Held.{seen, shown}
-use Rattle.seeking.proofs.Turns.{same-on, turned-start, turned-step, turned-rest}
-use Rattle.seeking.proofs.odometer.turn.Needs as need
+use Rattle.turning.proofs.Turns.{same-on, turned-start, turned-step, turned-rest}
+use Rattle.turning.proofs.odometer.turn.Needs as need
 
 pub loop-i-holds : need.loop-i-holds
 loop-i-holds g c =

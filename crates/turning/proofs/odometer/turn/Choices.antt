@@ -4,7 +4,7 @@ use lib.ListN.{drop, take}
 use Rattle.tables.specs.Contents.{placesFrom}
 use Rattle.tables.specs.Starts.{turned}
 use Rattle.lists.specs.Held.{SameShowing, seen, shown}
-use Rattle.seeking.proofs.odometer.turn.Given as given
+use Rattle.turning.proofs.odometer.turn.Given as given
 
 abbrev pub Inv-loop-i : given.InvT-loop-i
 Inv-loop-i g l =

@@ -3,7 +3,7 @@ use lib.ListN.{drop, take}
 use Rattle.tables.specs.Contents.{places, placesFrom}
 use Rattle.tables.specs.Starts.{reset}
 use Rattle.lists.specs.Held.{SameShowing, seen, shown}
-use Rattle.seeking.proofs.odometer.reset.Given as given
+use Rattle.turning.proofs.odometer.reset.Given as given
 
 abbrev pub Inv-loop-i : given.InvT-loop-i
 Inv-loop-i g l =

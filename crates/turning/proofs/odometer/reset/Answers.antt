@@ -5,8 +5,8 @@ use lib.ListN.{length}
 use Rattle.tables.specs.Contents.{places}
 use Rattle.tables.specs.Starts.{reset}
 use Rattle.lists.specs.Held.{seen, shown}
-use Rattle.seeking.proofs.Turns.{same-on, reset-here, reset-end}
-use Rattle.seeking.proofs.odometer.reset.Needs as need
+use Rattle.turning.proofs.Turns.{same-on, reset-here, reset-end}
+use Rattle.turning.proofs.odometer.reset.Needs as need
 
 pub loop-i-again : need.loop-i-again
 loop-i-again g c =

@@ -1,0 +1,2 @@
+// The way through the encounters made of starts.
+pub mod odometer;
