@@ -1,4 +1,7 @@
-// Tests of the draft calls: each refusal, and which comes first where there are two.
+// Tests of the calls on a sheet: each refusal, and which comes first where there are two.
+#[cfg(test)]
+mod issue_tests;
+
 #[cfg(test)]
 mod tests {
     use faults::SheetFault;
