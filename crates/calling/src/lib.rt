@@ -1,2 +1,5 @@
 // The calls of each kind of line.
+
+#![tactic(auto)]
+
 pub mod calls;

@@ -3,6 +3,9 @@
 // after the end; one past the last minute of the day is no value, so there is no stop there.
 //
 // Every u16 can be asked about; one above 1439 is no value, and no window's end.
+
+#![tactic(auto)]
+
 ghost use Rattle.std.specs.Prelude.{◌≡◌};
 ghost use Rattle.kinds.specs.Meaning.{earlier, later};
 ghost use Rattle.clock.specs.Clocks.{clock, clock_rank, is_minute};

@@ -1,5 +1,8 @@
 // Runs every page of data/ through the report and prints each name with its answer, in the order
 // of data/names.txt. What is to come out is in the file stdout.
+
+#![tactic(auto)]
+
 use page::report::answer;
 use std::fs;
 

@@ -1,4 +1,7 @@
 // What issue finds: the first question, and then the earliest encounter with a fault.
+
+#![tactic(auto)]
+
 ghost use Rattle.std.specs.Prelude.{◌≡◌, true};
 ghost use Rattle.lists.specs.Held.{SameShowing, lists_of, shown};
 ghost use Rattle.tables.specs.Answers.{issue_answer, issue_writes};

@@ -1,4 +1,7 @@
 // Sheets worked through by the definitions, at the joined house kinds.
+
+#![tactic(auto)]
+
 ghost use Rattle.std.specs.Prelude.{◌≡◌, List};
 ghost use Rattle.examples.specs.Sheets.{vertical_sheet};
 ghost use Rattle.examples.specs.Worked.{Worked};

@@ -1,5 +1,8 @@
 // Why a call is refused. Each case has one number, by which users know it, and the values that
 // the refusal tells. The faults of a lower layer turn into those of the next by `From`.
+
+#![tactic(auto)]
+
 ghost use Rattle.std.specs.Prelude.{◌≡◌};
 ghost use Rattle.faults.specs.Numbers.{kind_number, lookup_number, sheet_number};
 ghost use Rattle.faults.specs.declared.SheetFault.TheVariants.{Kind as OfKind, Lookup as OfLookup};

@@ -1,4 +1,7 @@
 // Pages that mean harm: each gets its refusal at once, whatever it holds. Prints a line for each.
+
+#![tactic(auto)]
+
 use page::report::answer;
 use std::alloc::{AllocError, Global};
 

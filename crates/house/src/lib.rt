@@ -1,4 +1,7 @@
 // The joined house kinds: measures, then names, then the clock. A page's quantities are of these.
+
+#![tactic(auto)]
+
 ghost use Rattle.std.specs.Prelude.{◌≡◌};
 ghost use Rattle.joined.specs.declared.Either.TheVariants.{Left, Right};
 

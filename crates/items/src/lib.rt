@@ -1,6 +1,9 @@
 // The items of a sheet.
 
 // Does each flight have a value of its own, or have both one together?
+
+#![tactic(auto)]
+
 #[derive(Clone, Copy)]
 pub enum Scope {
     Flight,

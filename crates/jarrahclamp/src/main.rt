@@ -1,4 +1,7 @@
 // Reads a page on standard input, issues its sheet and prints what came of it.
+
+#![tactic(auto)]
+
 use page::report::answer;
 use page::told::Report;
 use reading::reading::MOST_BYTES;

@@ -1,6 +1,9 @@
 // Joined: either of two kinds, left values before right ones. A range lies in one part. A cell is
 // lawful only for a range of its part and holds only there; after a value of the other part it
 // has no stop. In all else the part answers.
+
+#![tactic(auto)]
+
 ghost use Rattle.joined.specs.Joins.{joined};
 ghost use Rattle.joined.specs.JoinLaws.{joined-lawful};
 

@@ -3,6 +3,9 @@
 // A kind is a type that implements `Kind`. It tells the order of its values and answers four
 // questions about ranges and cells. `meaning` says what the answers are, and `lawful` what
 // every kind has to show of them; code over any kind is proved from these two alone.
+
+#![tactic(auto)]
+
 ghost use Rattle.std.specs.Prelude.{◌≡◌, nat_le};
 ghost use Rattle.kinds.specs.Meaning.{Meaning, Lawful, earlier};
 

@@ -1,4 +1,7 @@
 // Examples of each kind of condition and of result at its edges, and of each refusal's number.
+
+#![tactic(auto)]
+
 #[cfg(test)]
 mod tests {
     use clock::{Clock, Window};

@@ -1,2 +1,5 @@
 // By how much two flights keep their minima.
+
+#![tactic(auto)]
+
 pub mod margin;

@@ -2,6 +2,9 @@
 // included, and means inside or outside of it. Its stops are lo and the number after hi.
 //
 // Every i32 can be asked about; one beyond the limits is no value, and no band's end.
+
+#![tactic(auto)]
+
 ghost use Rattle.std.specs.Prelude.{◌≡◌, ◌<◌, true, not, pos, ◌+ℤ◌, if◌then◌else◌};
 ghost use Rattle.std.proofs.Common.{ap, arith};
 ghost use Rattle.kinds.specs.Meaning.{earlier, later};

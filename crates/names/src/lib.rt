@@ -2,6 +2,9 @@
 // number above 0 of which just one, it or the number before it, is in the set.
 //
 // Every u32 can be asked about; one above 31 is no name and in no set.
+
+#![tactic(auto)]
+
 ghost use Rattle.std.specs.Prelude.{◌≡◌, ◌+◌, ◌-◌, ◌<◌};
 ghost use Rattle.std.proofs.Common.{ap, ◌∙◌, arith};
 ghost use Rattle.names.specs.NameSets.{names, has, turns, first_from};

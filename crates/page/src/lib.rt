@@ -1,4 +1,7 @@
 // What the program answers to a page.
+
+#![tactic(auto)]
+
 mod fresh;
 pub mod report;
 pub mod told;

@@ -1,4 +1,7 @@
 // Why and where a page is refused, in reading and in writing.
+
+#![tactic(auto)]
+
 ghost use Rattle.std.specs.Prelude.{◌≡◌};
 ghost use Rattle.page_faults.specs.Numbers.{layer_of, page_number, write_number};
 ghost use Rattle.page_faults.specs.declared.PageFault.TheVariants.{Call as CallOf};

@@ -1,4 +1,7 @@
 // Tests of what the program answers.
+
+#![tactic(auto)]
+
 #[cfg(test)]
 mod tests {
     use page::report::answer;

@@ -1,5 +1,8 @@
 // Probes published encounters by the published sheets, and prints for each the minima, the margins
 // and the verdict, and the same with the flights exchanged.
+
+#![tactic(auto)]
+
 mod cases;
 mod sheets;
 mod table;

@@ -1,6 +1,9 @@
 // Compares what the published analysis says of each table with what issue says of its page, one line
 // a table: its page, the analysis, issue, whether the page is written back as it was read, and whether the
 // first two agree.
+
+#![tactic(auto)]
+
 mod again;
 mod answers;
 mod published;

@@ -1,3 +1,5 @@
+#![tactic(auto)]
+
 pub mod playing;
 pub mod script;
 pub mod state;

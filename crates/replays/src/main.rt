@@ -1,5 +1,8 @@
 // Replays scripts of calls on sheets, and prints what is answered to each call and the contents at
 // the end.
+
+#![tactic(auto)]
+
 mod levels;
 mod periods;
 mod telling;

@@ -1,4 +1,7 @@
 // Kinds of result: what a column of a sheet bears.
+
+#![tactic(auto)]
+
 pub mod figure;
 pub mod period;
 

@@ -1,4 +1,7 @@
 // Examples of lines and pages that are read and written back, and of fields that are refused.
+
+#![tactic(auto)]
+
 #[cfg(test)]
 mod tests {
     use house::Cell;

@@ -2,6 +2,9 @@
 //
 // The definitions are in specs/Standing. Each function below stands for a theorem: its contract is
 // the statement, over every kind of condition and every kind of result, and it computes nothing.
+
+#![tactic(auto)]
+
 ghost use Rattle.std.specs.Prelude.{◌≡◌, true, List, []};
 ghost use Rattle.items.specs.declared.Counts.{Counts};
 ghost use Rattle.runs.specs.Standing.{Stands};

@@ -1,3 +1,6 @@
 // The earliest encounter made of starts that has a fault.
+
+#![tactic(auto)]
+
 pub mod seek;
 mod sought;

@@ -1,4 +1,7 @@
 // Tests of the calls on a sheet: each refusal, and which comes first where there are two.
+
+#![tactic(auto)]
+
 #[cfg(test)]
 mod issue_tests;
 

@@ -3,6 +3,9 @@
 // The definitions are in specs/: Contents, Acceptance, Outcomes, Starts, Issues, Lookups, Calls,
 // Storage and Margins. Each function below stands for a theorem: its contract is the statement,
 // over every kind of condition and every kind of result, and it computes nothing.
+
+#![tactic(auto)]
+
 ghost use Rattle.std.specs.Prelude.{◌≡◌, List, None, Decides};
 ghost use Rattle.items.specs.declared.Counts.{Counts};
 ghost use Rattle.tables.specs.Acceptance.{Acceptable, acceptable};

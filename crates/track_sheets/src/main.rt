@@ -1,6 +1,9 @@
 // Sheets over a kind from outside the house: the tracks of two flights. Nothing but this program and
 // the crate of the kind knows it; the calls on a sheet, issue, look-up and the probe are used as
 // they are.
+
+#![tactic(auto)]
+
 mod show;
 mod written;
 

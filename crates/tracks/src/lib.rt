@@ -2,6 +2,9 @@
 // is a kind that the house does not have: nothing else in the repository knows it.
 //
 // A cell is a span of tracks, all whole tracks, or all half tracks. The last two turn at every track.
+
+#![tactic(auto)]
+
 ghost use Rattle.std.specs.Prelude.{◌≡◌, ◌≤◌, nat_le};
 ghost use Rattle.kinds.specs.Meaning.{earlier, later};
 ghost use Rattle.tracks.specs.Tracks.{is_track, next, place, track_rank, tracks};

@@ -1,5 +1,8 @@
 // The calls on a sheet in their order, as a program of one's own would make them: a draft is
 // written and issued, the issued sheet is looked up and withdrawn.
+
+#![tactic(auto)]
+
 use items::{Entry, Mode, Quantity, Row, Scope};
 use lists::lent::{Lists, Showing};
 use measure::{Band, Measure};

@@ -1,4 +1,7 @@
 // Writing a draft as a page into a buffer that the caller lends.
+
+#![tactic(auto)]
+
 mod gathering;
 mod sections;
 pub mod writing;
