@@ -1,9 +1,8 @@
 // The items of a sheet.
 
-// Does each flight have a value of its own, or have both one together?
-
 #![tactic(auto)]
 
+// Does each flight have a value of its own, or have both one together?
 #[derive(Clone, Copy)]
 pub enum Scope {
     Flight,

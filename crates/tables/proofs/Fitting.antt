@@ -1,7 +1,7 @@
 -- What each outcome means. Assumes nothing.
 use Rattle.std.proofs.Common.{◌≡◌, ℕ, suc, ◌+◌, true, false, ◌⊎◌, List, [], ◌∷◌, length, Some, None, Option, sym, refl, ap, ◌∙◌, subst, inl, inr, zero-add, arith}
 use Rattle.std.specs.List.{AllByRecursion as All}
-use Rattle.std.proofs.lemmas.Bool.{cond_both, cond-true, cond-false, cases_bool, or_cases, or_parts, false≢true}
+use Rattle.std.proofs.lemmas.Bool.{cond_both, cond-true, cond-false, cases_Bool, or_cases, or_parts, false≢true}
 use Rattle.kinds.specs.Meaning.{Meaning}
 use Rattle.items.specs.declared.Entry.{Entry}
 use Rattle.tables.specs.Words.{Any, Cut}
@@ -21,7 +21,7 @@ module _ {V C R : Type 0} (m : Meaning V C) (r : Results R) (c : Contents V C R)
 
   lowest : (n : ℕ) (xs : List (Column C R)) → ((found n xs ≡ []) × All (Unmet m r c e) xs) ⊎ Lowest n xs
   lowest n [] = inl (refl, tt)
-  lowest n (x ∷ xs) = elim (cases_bool (met m c.rows x.entries e)) [
+  lowest n (x ∷ xs) = elim (cases_Bool (met m c.rows x.entries e)) [
     | inl t ↦ inr (record { before = []; here = x; rest = xs; is = refl; all = tt; found = t }, (n, (omega arith, cond-true (met m c.rows x.entries e) ((n, x.result) ∷ found (suc n) xs) (found (suc n) xs) t)))
     | inr f ↦ let skip = cond-false (met m c.rows x.entries e) ((n, x.result) ∷ found (suc n) xs) (found (suc n) xs) f in
         elim (lowest (suc n) xs) [
@@ -42,9 +42,9 @@ module _ {V C R : Type 0} (m : Meaning V C) (r : Results R) (c : Contents V C R)
         | inl h ↦ inl (skip ∙ h.0, (a, h.1))
         | inr h ↦ inr (longer (Agrees m r c e t) (Disagrees m r c e t) x xs a h.0, (h.1.0, (omega (arith, h.1.1.0), skip ∙ h.1.1.1)))
       ] in
-      elim (cases_bool (met m c.rows x.entries e)) [
+      elim (cases_Bool (met m c.rows x.entries e)) [
         | inl y ↦ let here = ap (unequal r t) (cond-true (met m c.rows x.entries e) ((n, x.result) ∷ found (suc n) xs) (found (suc n) xs) y) in
-            elim (cases_bool (r.same t x.result)) [
+            elim (cases_Bool (r.same t x.result)) [
               | inl s ↦ on (λ _. s) (here ∙ cond-true (r.same t x.result) (unequal r t (found (suc n) xs)) (Some n) s)
               | inr s ↦ inr (record { before = []; here = x; rest = xs; is = refl; all = tt; found = (y, s) }, (n, (omega arith, here ∙ cond-false (r.same t x.result) (unequal r t (found (suc n) xs)) (Some n) s)))
             ]

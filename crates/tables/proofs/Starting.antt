@@ -2,7 +2,7 @@
 use Rattle.std.proofs.Common.{◌≡◌, ◌<◌, ◌≤◌, leb, ◌⊎◌, List, [], ◌∷◌, Some, None, Option, sym, refl, ap, ◌∙◌, subst, inl, inr, arith}
 use Rattle.std.specs.List.{AllByRecursion as All}
 use Rattle.std.proofs.ByRecursion.{All-weaker}
-use Rattle.std.proofs.lemmas.Bool.{cond_both, cond-true, cond-false, cases_bool, leb-true, leb-false}
+use Rattle.std.proofs.lemmas.Bool.{cond_both, cond-true, cond-false, cases_Bool, leb-true, leb-false}
 use Rattle.kinds.specs.Meaning.{Meaning, Lawful, earlier}
 use Rattle.tables.specs.Words.{Any}
 use Rattle.tables.specs.Starts.{not_after, earliest, onward, starts_on}
@@ -48,7 +48,7 @@ module _ {V C : Type 0} (m : Meaning V C) (law : Lawful m) where
     | inl t ↦
         let s = t.0 in
         let step : starts_on m xs z v ≡ v ∷ onward (starts_on m xs z) (not_after m.rank z (Some s)) = starts-on m law xs z v ∙ ap (λ o. v ∷ onward (starts_on m xs z) (not_after m.rank z o)) t.1.0 in
-        elim (cases_bool (leb (m.rank s) (m.rank z))) [
+        elim (cases_Bool (leb (m.rank s) (m.rank z))) [
           | inl l ↦ inl (s, (record { stops = t.1.1.0; earliest = t.1.1.1; within = leb-true (m.rank s) (m.rank z) l }, step ∙ ap (λ o. v ∷ onward (starts_on m xs z) o) (cond-true (leb (m.rank s) (m.rank z)) (Some s) None l)))
           | inr f ↦ inr (All-weaker (NotBefore v s) (λ x. (t : V) → m.stop x v ≡ Some t → m.rank z < m.rank t) (λ x h t k. omega (arith, leb-false (m.rank s) (m.rank z) f, h t k)) xs t.1.1.1, step ∙ ap (λ o. v ∷ onward (starts_on m xs z) o) (cond-false (leb (m.rank s) (m.rank z)) (Some s) None f))
         ]

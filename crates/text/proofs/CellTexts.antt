@@ -7,7 +7,7 @@ use Rattle.std.specs.List.{between, AllByRecursion as All}
 use Rattle.std.proofs.lemmas.Slice.Eq.{bytes_eq-Decides}
 use Rattle.std.proofs.lemmas.Fmt.{digits_decimal, decimal_nonempty}
 use Rattle.std.proofs.lemmas.List.{take_at, drop_at, drop-drop, drop_more, take-append-drop, take_rest, take_all, length-append, length-drop, get_or-append_right, get_or_past, get_or_at, nil_from_length, drop_all}
-use Rattle.std.proofs.lemmas.Bool.{cond-true, cond-false, eq-eqb, ne_eqb, eqb-true, and_from, and_parts, ltb-true, leb-true, lt-ltb, le-leb, cases_bool, cases_lt}
+use Rattle.std.proofs.lemmas.Bool.{cond-true, cond-false, eq-eqb, ne_eqb, eqb-true, and_from, and_parts, ltb-true, leb-true, lt-ltb, le-leb, cases_Bool, cases_lt}
 use Rattle.std.proofs.lemmas.Bool.Decides.{nat_tests}
 use Rattle.joined.specs.declared.Either.TheVariants.{Left, Right}
 use Rattle.house.specs.House.{Cell}
@@ -73,7 +73,7 @@ up_to-hit : (sep : ℕ) (xs : List ℕ) → up_to sep xs < length xs → get_or 
 up_to-hit sep [] h = absurd (omega arith)
 up_to-hit sep (x ∷ xs) h =
     ⊎_elim (λ (t : eqb x sep ≡ true). let z : up_to sep (x ∷ xs) ≡ 0 = cond-true _ _ _ t in ap (λ i. get_or (x ∷ xs) i 0) z ∙ eqb-true x sep t)
-    (λ (f : eqb x sep ≡ false). let z : up_to sep (x ∷ xs) ≡ suc (up_to sep xs) = cond-false _ _ _ f in ap (λ i. get_or (x ∷ xs) i 0) z ∙ up_to-hit sep xs (omega arith)) (cases_bool (eqb x sep))
+    (λ (f : eqb x sep ≡ false). let z : up_to sep (x ∷ xs) ≡ suc (up_to sep xs) = cond-false _ _ _ f in ap (λ i. get_or (x ∷ xs) i 0) z ∙ up_to-hit sep xs (omega arith)) (cases_Bool (eqb x sep))
 
 up_to-at : (sep : ℕ) (f : List ℕ) (g : List ℕ) → Free sep f → up_to sep (f ++ (sep ∷ g)) ≡ length f
 up_to-at sep [] g a = cond-true _ _ _ (eq-eqb sep sep refl)
@@ -226,7 +226,7 @@ set-of (suc k) j set h f =
     let o : set % 2 ≡ 0 = grind (arith, nat_tests) in
     let e : names_in (suc k) j set ≡ l = cond-false _ _ _ t in
     subst (λ ns. Asc j ns × (weigh j ns ≡ set)) (sym e) (asc-down (suc j) j l (omega arith) r.0, omega arith))
-    (cases_bool (eqb (set % 2) 1))
+    (cases_Bool (eqb (set % 2) 1))
 
 -- names read one by one
 member_back : (from n : ℕ) → from ≤ n → n < 32 → member from (decimal n) ≡ Some n
@@ -319,7 +319,7 @@ listed-parts bs set e =
     let r = members-parts (parted 44 bs) 0 0 set (sym (cond-false _ _ _ t) ∙ e) in
     let v : set ≡ 0 + weigh 0 r.0 = r.3 in
     (r.0, r.1, ap (rejoined 44) r.2 ∙ whole 44 bs, omega arith))
-    (cases_bool (eqb (length bs) 0))
+    (cases_Bool (eqb (length bs) 0))
 
 abbrev inner : ℕ → List ℕ
 inner set = rejoined 44 (map decimal (names_in 32 0 set))

@@ -7,7 +7,7 @@ use Rattle.std.specs.Fmt.{signed_decimal}
 use Rattle.std.proofs.lemmas.Slice.Eq.{bytes_eq-Decides}
 use Rattle.std.proofs.lemmas.Str.Parse.{IsNumeralModel, numerals_by_fold, digits_value_short}
 use Rattle.std.proofs.lemmas.Fmt.{digits_decimal, digits_value-decimal, length-decimal-le, decimal_nonempty, first_decimal, decimal_digit, decimal-digits_value}
-use Rattle.std.proofs.lemmas.Bool.{cond-true, cond-false, eq-eqb, ne_eqb, and_from, and_parts, ltb-true, leb-true, eqb-true, lt-ltb, le-leb, cases_lt, cases_bool}
+use Rattle.std.proofs.lemmas.Bool.{cond-true, cond-false, eq-eqb, ne_eqb, and_from, and_parts, ltb-true, leb-true, eqb-true, lt-ltb, le-leb, cases_lt, cases_Bool}
 use Rattle.std.proofs.lemmas.Bool.Decides.{nat_tests}
 use Rattle.joined.specs.declared.Either.TheVariants.{Left, Right}
 use Rattle.house.specs.House.{Value}
@@ -81,7 +81,7 @@ worded-is P (p ∷ ps) a bs x e =
     let v : p.1 ≡ x = cc in
     let w : bs ≡ p.0 = (bytes_eq-Decides bs p.0).0 t in
     subst (λ y. P bs y) v (subst (λ l. P l p.1) (sym w) a.0))
-    (λ (f : bytes_eq bs p.0 ≡ false). worded-is P ps a.1 bs x (sym (cond-false _ _ _ f) ∙ e)) (cases_bool (bytes_eq bs p.0))
+    (λ (f : bytes_eq bs p.0 ≡ false). worded-is P ps a.1 bs x (sym (cond-false _ _ _ f) ∙ e)) (cases_Bool (bytes_eq bs p.0))
 
 -- a form whose words stand in a table
 pub tabled : {X : Type 0} (text : X → List ℕ) (table : List (List ℕ × X)) → ((x : X) → worded table (text x) ≡ Some x) → All (λ p. (text p.1 ≡ p.0) × All (λ b. 32 < b) p.0) table → Faithful (record { right = λ x. true; text = text; read = worded table })
@@ -162,7 +162,7 @@ measure-parts (b ∷ bs) z e =
     let g = above-some (number (b ∷ bs)) z (sym (cond-false _ _ _ f) ∙ e) in
     let w = number_same (b ∷ bs) g.0 g.1 in
     (ap seven_digits g.2 ∙ w.0, ap signed_decimal g.2 ∙ w.1, number-solid (b ∷ bs) g.0 g.1))
-    (cases_bool (eqb b 45))
+    (cases_Bool (eqb b 45))
 
 pub measures : Faithful measure_form
 measures = record { back = measure-back; same = λ bs z e. ((measure-parts bs z e).0, (measure-parts bs z e).1); solid = λ bs z e. (measure-parts bs z e).2 }

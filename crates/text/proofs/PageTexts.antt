@@ -1,7 +1,7 @@
 -- The lines of a text put together, and the parts of a page.
 use Rattle.std.proofs.Common.{◌≡◌, ℕ, suc, ◌+◌, ◌-◌, ◌<◌, ◌≤◌, Bool, true, false, cond, ◌&&◌, ◌||◌, eqb, leb, List, [], ◌∷◌, ◌++◌, length, get_or, take, drop, Ok, Err, codes, Result, sym, refl, ap, ◌∙◌, subst, ⊎_elim, arith}
 use Rattle.std.proofs.lemmas.List.{length-take-le, length-append, take_rest, take_at, drop_at, take-append-drop, get_or_append_left, get_or-take, nil_from_length}
-use Rattle.std.proofs.lemmas.Bool.{cond-true, cond-false, cases_bool, cases_lt, eqb-true, eq-eqb, ne_eqb, le-leb, leb-true, and_from, and_parts, or_left, or_right, or_cases}
+use Rattle.std.proofs.lemmas.Bool.{cond-true, cond-false, cases_Bool, cases_lt, eqb-true, eq-eqb, ne_eqb, le-leb, leb-true, and_from, and_parts, or_left, or_right, or_cases}
 use Rattle.std.proofs.lemmas.Slice.Eq.{bytes_eq-Decides}
 use Rattle.std.specs.Str.{bytes_eq}
 use Rattle.std.specs.List.{flat_map, between, AllByRecursion as All}
@@ -36,7 +36,7 @@ lined-same (b ∷ (x ∷ xs)) h =
     (λ (f : eqb b 10 ≡ false).
     let c = lined-first x xs in
     ap (flat_map (λ l. l ++ (10 ∷ []))) (cond-false _ _ _ f) ∙ ap (λ v. flat_map (λ l. l ++ (10 ∷ [])) (in_front b v)) c
-    ∙ ap (λ v. b ∷ flat_map (λ l. l ++ (10 ∷ [])) v) (sym c) ∙ ap (λ v. b ∷ v) r) (cases_bool (eqb b 10))
+    ∙ ap (λ v. b ∷ flat_map (λ l. l ++ (10 ∷ [])) v) (sym c) ∙ ap (λ v. b ∷ v) r) (cases_Bool (eqb b 10))
 
 lined-line : (l rest : List ℕ) → Free 10 l → lined ((l ++ (10 ∷ [])) ++ rest) ≡ l ∷ lined rest
 lined-line [] rest a = refl

@@ -3,7 +3,7 @@ use Rattle.std.proofs.Common.{◌≡◌, ℕ, suc, ◌+◌, ◌-◌, ◌<◌, �
 use lib.Dec.{leb-suc-suc}
 use Rattle.std.proofs.lemmas.List.{at_drop_more, at_drop_all, drop-drop}
 use Rattle.std.proofs.lemmas.Bool.Decides.{nat_tests}
-use Rattle.std.proofs.lemmas.Bool.{le-leb, lt-leb, eq-eqb, ne_eqb, cond-true, cond-false, eqb-true, eqb-false, cases_bool}
+use Rattle.std.proofs.lemmas.Bool.{le-leb, lt-leb, eq-eqb, ne_eqb, cond-true, cond-false, eqb-true, eqb-false, cases_Bool}
 use Rattle.std.specs.List.{AllByRecursion as All}
 use Rattle.text.specs.Fields.{in_front, parted, followed, rejoined, up_to, parts_from, fields_from}
 
@@ -61,7 +61,7 @@ whole sep (b ∷ bs) =
     ⊎_elim (λ (t : eqb b sep ≡ true).
     ap (rejoined sep) (cond-true _ _ _ t) ∙ followed-parted sep bs ∙ ap (λ l. sep ∷ l) (whole sep bs) ∙ ap (λ x. x ∷ bs) (sym (eqb-true b sep t)))
     (λ (f : eqb b sep ≡ false).
-    ap (rejoined sep) (cond-false _ _ _ f) ∙ rejoined-in_front sep b (parted sep bs) ∙ ap (λ l. b ∷ l) (whole sep bs)) (cases_bool (eqb b sep))
+    ap (rejoined sep) (cond-false _ _ _ f) ∙ rejoined-in_front sep b (parted sep bs) ∙ ap (λ l. b ∷ l) (whole sep bs)) (cases_Bool (eqb b sep))
 
 -- no byte of a part is the separator
 abbrev pub Free : ℕ → List ℕ → Type 0

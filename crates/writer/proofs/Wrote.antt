@@ -6,7 +6,7 @@ use Rattle.std.specs.List.{flat_map}
 use Rattle.std.proofs.lemmas.Fmt.{decimal_step, decimal_digit}
 use Rattle.std.proofs.lemmas.List.{append_assoc, append-nil, length-append, take-append-drop, set_split, take_at, drop_at, drop-drop, length-take-le, take_more, flat_map_more, map-append}
 use Rattle.std.proofs.lemmas.Int.{to_z-of_z}
-use Rattle.std.proofs.lemmas.Bool.{both_ways, ltb-true, cases_lt, cases_bool, cond-true, cond-false, ne_eqb}
+use Rattle.std.proofs.lemmas.Bool.{both_ways, ltb-true, cases_lt, cases_Bool, cond-true, cond-false, ne_eqb}
 use Rattle.house.specs.House.{Cell}
 use Rattle.items.specs.declared.Entry.{Entry}
 use Rattle.text.specs.Fields.{followed, rejoined}
@@ -64,7 +64,7 @@ wrote-more {w} {v} {u} {xs} {ys} a b =
             ⊎_elim (λ (t : w.live ≡ true).
                 g.2 ∙ cond-true _ _ _ (a.live ∙ t) ∙ ap (put_at v.at ys) (f.2 ∙ cond-true _ _ _ t) ∙ m ∙ sym (cond-true _ _ _ t))
                 (λ (t : w.live ≡ false).
-                b.dry (a.live ∙ t) ∙ a.dry t ∙ sym (cond-false _ _ _ t)) (cases_bool w.live),
+                b.dry (a.live ∙ t) ∙ a.dry t ∙ sym (cond-false _ _ _ t)) (cases_Bool w.live),
           );
       over = λ h k.
           ⊎_elim (λ (o : length (buffer w) < w.at + length xs). b.stays (a.over h o))
