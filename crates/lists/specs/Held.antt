@@ -4,6 +4,7 @@ use Rattle.faults.specs.declared.SheetFault.{SheetFault}
 use Rattle.faults.specs.declared.SheetFault.TheVariants.{Lists as WrongLists}
 use Rattle.items.specs.declared.Counts.{Counts}
 use Rattle.kinds.specs.Meaning.{Meaning}
+use Rattle.kinds.specs.declared.Kind.{Ghosts}
 use Rattle.results.specs.Results.{Results}
 use Rattle.tables.specs.Contents.{Contents, Encounter}
 use Rattle.tables.specs.Storage.{Lists, contents_of, in_order, right_lengths}
@@ -18,10 +19,10 @@ module _ {K R V C : Type 0} where
   lists_of l = record { quantities = l.quantities.now; rows = l.rows.now; entries = l.entries.now; results = l.results.now }
 
   -- the four lists behind a view, and the contents that it shows
-  abbrev pub viewed : View K R V C → Lists V C R
+  abbrev pub viewed : {k : Ghosts K V C} → View K R V C k → Lists V C R
   viewed v = record { quantities = v.quantities.now; rows = v.rows.now; entries = v.entries.now; results = v.results.now }
 
-  abbrev pub seen : View K R V C → Contents V C R
+  abbrev pub seen : {k : Ghosts K V C} → View K R V C k → Contents V C R
   seen v = contents_of v.counts (viewed v)
 
 module _ {V : Type 0} where
@@ -46,11 +47,11 @@ pub record SameShowing {V : Type 0} (before after : Showing V) : Type 0 where
 
 module _ {K R V C : Type 0} where
   -- a view of lists of right length
-  abbrev pub Looked : Counts → LentLists K R V C → Option (View K R V C) → Type 0
+  abbrev pub Looked : {k : Ghosts K V C} → Counts → LentLists K R V C → Option (View K R V C k) → Type 0
   Looked n l (Some v) = (v.counts ≡ n) × (viewed v ≡ lists_of l) × (right_lengths (lists_of l) ≡ true)
   Looked n l None = right_lengths (lists_of l) ≡ false
 
   -- what the first question answers: a view of what the lists hold, or a refusal
-  abbrev pub FirstAnswer : Meaning V C → Results R → Counts → LentLists K R V C → Result (View K R V C) SheetFault → Type 0
+  abbrev pub FirstAnswer : {k : Ghosts K V C} → Meaning V C → Results R → Counts → LentLists K R V C → Result (View K R V C k) SheetFault → Type 0
   FirstAnswer m r n l (Ok v) = (v.counts ≡ n) × (viewed v ≡ lists_of l) × (in_order m r n (lists_of l) ≡ true)
   FirstAnswer m r n l (Err f) = (f ≡ WrongLists) × (in_order m r n (lists_of l) ≡ false)

@@ -9,6 +9,7 @@ use Rattle.tables.specs.Words.{each}
 use Rattle.tables.specs.Starts.{reading}
 use Rattle.tables.specs.Storage.{column_of}
 use Rattle.lists.specs.Held.{seen}
+use Rattle.kinds.specs.declared.Kind.{Ghosts}
 use Rattle.lists.specs.declared.view.View.{View}
 
 -- the stop after v of an entry in a row, if the row reads quantity i
@@ -17,5 +18,5 @@ stop_of m i w Any v = None
 stop_of m i w (Cell x) v = cond (w.quantity == i) (m.stop x v) None
 
 -- the cells in rows that read quantity i, of the columns from number j up to n
-abbrev pub cells_from : {K R V C : Type 0} → View K R V C → ℕ → ℕ → ℕ → List C
+abbrev pub cells_from : {K R V C : Type 0} {k : Ghosts K V C} → View K R V C k → ℕ → ℕ → ℕ → List C
 cells_from v i j n = each (range_with_len j (n - j)) (λ k. reading i (seen v).rows (column_of v.entries.now v.counts.rows k))

@@ -9,9 +9,9 @@ returns-in-Ok g c =
     let r = g.R.ResultKind.results in
     let l = lists_of c.args.lists.now in
     record {
-      answer = λ b. let h = c.in-Ok.ensures.answer b in (examined m r c.args.counts l (shown c.args.at.now) c.in-Ok.view.counts (viewed c.in-Ok.view) c.find-fault.result (shown c.find-fault.new.at) h.0 h.1 h.2 c.find-fault.ensures.found).0;
-      left = λ b. let h = c.in-Ok.ensures.answer b in (examined m r c.args.counts l (shown c.args.at.now) c.in-Ok.view.counts (viewed c.in-Ok.view) c.find-fault.result (shown c.find-fault.new.at) h.0 h.1 h.2 c.find-fault.ensures.found).1;
-      lent = c.find-fault.ensures.lent;
+      answer = λ b. let h = c.in-Ok.ensures.answer b in (examined m r c.args.counts l (shown c.args.at.now) c.in-Ok.view.counts (viewed c.in-Ok.view) c.find_fault.result (shown c.find_fault.new.at) h.0 h.1 h.2 c.find_fault.ensures.found).0;
+      left = λ b. let h = c.in-Ok.ensures.answer b in (examined m r c.args.counts l (shown c.args.at.now) c.in-Ok.view.counts (viewed c.in-Ok.view) c.find_fault.result (shown c.find_fault.new.at) h.0 h.1 h.2 c.find_fault.ensures.found).1;
+      lent = c.find_fault.ensures.lent;
       rightly = rightly m r c.args.counts l (shown c.args.at.now) g.met.K.Kind.lawful g.met.R.ResultKind.equal;
     }
 

@@ -7,4 +7,4 @@ use Rattle.examples.specs.Sheets.{vertical_sheet}
 use Rattle.examples.proofs.vertical_is_faultless.Goals as goal
 
 pub returns : goal.returns
-returns c = (c.issue-answers-rightly.ensures vertical_sheet ((accepts house figures vertical_sheet).0 refl) lent).says.2
+returns c = (c.issue_answers_rightly.ensures vertical_sheet ((accepts house figures vertical_sheet).0 refl) lent).says.2

@@ -17,9 +17,9 @@ returns-in-Ok c =
     let k = asked_of c.never.result in
     let z : m ≡ m - 0 = omega arith in
     record {
-      went = line-goes (entries n.rows (byte s) (left s)) (take m out) (never_line) (k ∷ cells_from c.next-never-column.result 0 (take (m - 0) out)) n c.add.new.draft.counts (lists_of c.args.lists.now) (lists_of c.add.new.lists) c.add.result
+      went = line-goes (entries n.rows (byte s) (left s)) (take m out) (never_line) (k ∷ cells_from c.next_never-column.result 0 (take (m - 0) out)) n c.add.new.draft.counts (lists_of c.args.lists.now) (lists_of c.add.new.lists) c.add.result
           (never-said m (byte s) (left s) out h.value h.kept ∙ ap (λ n. entries n.rows (byte s) (left s)) c.counts-rows.ensures)
-          (c.never.ensures n (take m out) ∙ ap₂ (λ j i. k ∷ cells_from j 0 (take i out)) (sym c.next-never-column.ensures) z)
+          (c.never.ensures n (take m out) ∙ ap₂ (λ j i. k ∷ cells_from j 0 (take i out)) (sym c.next_never-column.ensures) z)
           c.add.ensures.went;
       lent = c.add.ensures.lent;
     }

@@ -6,11 +6,11 @@ use Rattle.page.proofs.report.answer.Goals as goal
 
 pub returns : goal.returns
 returns c =
-    let l : PageLists = record { quantities = c.no-quantities-quantities.result; rows = c.no-rows-rows.result; entries = c.no-entries-entries.result; results = c.no-results-results.result } in
-    let e : Encounter Value = record { a = c.no-values-a.result; b = c.no-values-b.result; pair = c.no-values-pair.result } in
-    let p = fresh-lists l c.no-quantities-quantities.ensures c.no-rows-rows.ensures c.no-entries-entries.ensures c.no-results-results.ensures in
-    let q = fresh-encounter e c.no-values-a.ensures c.no-values-b.ensures c.no-values-pair.ensures in
+    let l : PageLists = record { quantities = c.no_quantities-quantities.result; rows = c.no_rows-rows.result; entries = c.no_entries-entries.result; results = c.no_results-results.result } in
+    let e : Encounter Value = record { a = c.no_values-a.result; b = c.no_values-b.result; pair = c.no_values-pair.result } in
+    let p = fresh-lists l c.no_quantities-quantities.ensures c.no_rows-rows.ensures c.no_entries-entries.ensures c.no_results-results.ensures in
+    let q = fresh-encounter e c.no_values-a.ensures c.no_values-b.ensures c.no_values-pair.ensures in
     record {
-      told = told_fresh c.args.page.now l e p q c.answer-with.result c.answer-with.ensures.told;
-      meant = reported-fresh c.args.page.now l e p q c.answer-with.ensures.rightly;
+      told = told_fresh c.args.page.now l e p q c.answer_with.result c.answer_with.ensures.told;
+      meant = reported-fresh c.args.page.now l e p q c.answer_with.ensures.rightly;
     }

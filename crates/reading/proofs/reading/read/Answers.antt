@@ -4,8 +4,8 @@ use Rattle.reading.proofs.reading.read.Goals as goal
 
 pub returns : goal.returns
 returns c = record {
-  answer = c.read-page.ensures.answer;
-  left = c.read-page.ensures.left;
-  lent = c.read-page.ensures.lent;
+  answer = c.read_page.ensures.answer;
+  left = c.read_page.ensures.left;
+  lent = c.read_page.ensures.lent;
   rightly = read-rightly c.args.page.now (lists_of c.args.lists.now);
 }

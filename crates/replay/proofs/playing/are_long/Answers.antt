@@ -8,4 +8,4 @@ pub returns : goal.returns
 returns g c =
     let l = lists_of c.args.lists.now in
     let few : Bounded c.counts.result = search rules in
-    c.in-order.ensures few ∙ ap (λ n. in_order g.K.Kind.meaning g.R.ResultKind.results n l) (c.counts.ensures ∙ c.open.ensures) ∙ opened-in-order g.K.Kind.meaning g.R.ResultKind.results l
+    c.in_order.ensures few ∙ ap (λ n. in_order g.K.Kind.meaning g.R.ResultKind.results n l) (c.counts.ensures ∙ c.open.ensures) ∙ opened-in-order g.K.Kind.meaning g.R.ResultKind.results l

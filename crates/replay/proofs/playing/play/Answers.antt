@@ -20,7 +20,7 @@ loop-i-preserved g c =
     c.answer-sheet.result (lists_of c.answer-sheet.new.lists) (shown c.answer-sheet.new.at) _ s.stepped s.showing in (
       subst (Reached g.K.Kind.meaning g.R.ResultKind.results c.args.calls.now (lists_of c.args.lists.now) (shown c.args.at.now) c.args.answers.now _ c.answer-sheet.result (lists_of c.answer-sheet.new.lists) (shown c.answer-sheet.new.at)) (sym s.answered) more,
       record { quantities = s.lent.quantities ∙ h.1.quantities; rows = s.lent.rows ∙ h.1.rows; entries = s.lent.entries ∙ h.1.entries; results = s.lent.results ∙ h.1.results },
-      record { a = s.lent-showing.a ∙ h.2.a; b = s.lent-showing.b ∙ h.2.b; pair = s.lent-showing.pair ∙ h.2.pair },
+      record { a = s.lent_showing.a ∙ h.2.a; b = s.lent_showing.b ∙ h.2.b; pair = s.lent_showing.pair ∙ h.2.pair },
     )
 
 pub returns : goal.returns

@@ -13,7 +13,7 @@ returns g c =
     record {
       after = λ ok w n.
           let v : whole (shown c.reset.new.at) ≡ true = ap whole c.reset.ensures.after ∙ reset-whole m s (places s) (shown c.args.at.now) w in
-          from-least m g.met.K.Kind.lawful g.R.ResultKind.results s ok (sought_in m g.R.ResultKind.results s c.args.sought) (shown c.args.at.now) (shown c.reset.new.at) c.seek-on.result (shown c.seek-on.new.at) w c.reset.ensures.after
-          (c.seek-on.ensures.after ok v (counted m g.met.K.Kind.lawful g.R.ResultKind.results s ok (shown c.args.at.now) (shown c.reset.new.at) c.args.count w c.reset.ensures.after n));
-      lent = same-on c.reset.ensures.lent c.seek-on.ensures.lent;
+          from-least m g.met.K.Kind.lawful g.R.ResultKind.results s ok (sought_in m g.R.ResultKind.results s c.args.sought) (shown c.args.at.now) (shown c.reset.new.at) c.seek_on.result (shown c.seek_on.new.at) w c.reset.ensures.after
+          (c.seek_on.ensures.after ok v (counted m g.met.K.Kind.lawful g.R.ResultKind.results s ok (shown c.args.at.now) (shown c.reset.new.at) c.args.count w c.reset.ensures.after n));
+      lent = same-on c.reset.ensures.lent c.seek_on.ensures.lent;
     }

@@ -11,12 +11,12 @@ loop-n-init g c = (
   record { a = refl; b = refl; pair = refl },
 )
 
-pub returns-then-is-sought : goal.returns-then-is-sought
-returns-then-is-sought g c =
+pub returns-then-is_sought : goal.returns-then-is_sought
+returns-then-is_sought g c =
     let f = sought_in g.K.Kind.meaning g.R.ResultKind.results (seen c.args.view.now) c.args.sought in
     record {
       after = λ ok w n. hit g.K.Kind.meaning g.met.K.Kind.lawful g.R.ResultKind.results (seen c.args.view.now) ok f (shown c.args.at.now) c.args.count c.loop-n.-n (shown c.loop-n.at)
-          (c.loop-n.invariant.0 ok w n) (c.is-sought.ensures ∙ ap f c.encounter.ensures) c.if-is-sought.true;
+          (c.loop-n.invariant.0 ok w n) (c.is_sought.ensures ∙ ap f c.encounter.ensures) c.if-is_sought.true;
       lent = c.loop-n.invariant.1;
     }
 
@@ -25,7 +25,7 @@ returns-then-not-turn g c =
     let f = sought_in g.K.Kind.meaning g.R.ResultKind.results (seen c.args.view.now) c.args.sought in
     record {
       after = λ ok w n. over g.K.Kind.meaning g.met.K.Kind.lawful g.R.ResultKind.results (seen c.args.view.now) ok f (shown c.args.at.now) c.args.count c.loop-n.-n (shown c.loop-n.at) (shown c.turn.new.at)
-          (c.loop-n.invariant.0 ok w n) (c.is-sought.ensures ∙ ap f c.encounter.ensures) c.if-is-sought.false c.turn.ensures.after c.if-not-turn.true;
+          (c.loop-n.invariant.0 ok w n) (c.is_sought.ensures ∙ ap f c.encounter.ensures) c.if-is_sought.false c.turn.ensures.after c.if-not-turn.true;
       lent = same-on c.loop-n.invariant.1 c.turn.ensures.lent;
     }
 
@@ -33,7 +33,7 @@ pub loop-n-preserved : goal.loop-n-preserved
 loop-n-preserved g c =
     let f = sought_in g.K.Kind.meaning g.R.ResultKind.results (seen c.args.view.now) c.args.sought in (
       λ ok w n. step g.K.Kind.meaning g.met.K.Kind.lawful g.R.ResultKind.results (seen c.args.view.now) ok f (shown c.args.at.now) c.args.count c.loop-n.-n (shown c.loop-n.at) (shown c.turn.new.at)
-          (c.loop-n.invariant.0 ok w n) (c.is-sought.ensures ∙ ap f c.encounter.ensures) c.if-is-sought.false c.turn.ensures.after c.if-not-turn.false,
+          (c.loop-n.invariant.0 ok w n) (c.is_sought.ensures ∙ ap f c.encounter.ensures) c.if-is_sought.false c.turn.ensures.after c.if-not-turn.false,
       same-on c.loop-n.invariant.1 c.turn.ensures.lent,
     )
 

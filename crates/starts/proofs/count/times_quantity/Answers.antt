@@ -11,4 +11,4 @@ returns-in-None g c =
 pub returns-in-Flight : goal.returns-in-Flight
 returns-in-Flight g c =
     quantity-twice c.args.product (starts_of g.K.Kind.meaning (seen c.args.view.now) c.args.i c.args.q.least c.args.q.greatest) c.in-Some.once c.args.q.scope
-    c.in-Flight.is c.in-Some.ensures c.times-starts-in-Flight.ensures
+    c.in-Flight.is c.in-Some.ensures c.times_starts-in-Flight.ensures

@@ -9,9 +9,9 @@ pub loop-i-preserved : goal.loop-i-preserved
 loop-i-preserved g c =
     let long : c.args.view.now.counts.quantities ≤ length c.args.view.now.quantities.now = omega arith in (
       reset-here g.K.Kind.meaning (seen c.args.view.now) c.args.view.now.quantities.now c.args.view.now.counts.quantities c.loop-i.i c.index-view-i.result
-          (shown c.loop-i.at) (shown c.reset-quantity.new.at) (reset g.K.Kind.meaning (seen c.args.view.now) (places (seen c.args.view.now)) (shown c.args.at.now))
-          long c.loop-i-test.true c.reset-quantity.ensures.after c.loop-i.invariant.0,
-      same-on c.loop-i.invariant.1 c.reset-quantity.ensures.lent,
+          (shown c.loop-i.at) (shown c.reset_quantity.new.at) (reset g.K.Kind.meaning (seen c.args.view.now) (places (seen c.args.view.now)) (shown c.args.at.now))
+          long c.loop-i-test.true c.reset_quantity.ensures.after c.loop-i.invariant.0,
+      same-on c.loop-i.invariant.1 c.reset_quantity.ensures.lent,
     )
 
 pub returns : goal.returns

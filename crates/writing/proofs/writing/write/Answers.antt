@@ -5,14 +5,14 @@ use Rattle.pages.proofs.BothWays.{written-rightly}
 use Rattle.writing.proofs.Asked.{no_answer, no-leaves, yes-answer, yes-leaves}
 use Rattle.writing.proofs.writing.write.Goals as goal
 
-pub returns-then-not-in-order : goal.returns-then-not-in-order
-returns-then-not-in-order c =
+pub returns-then-not-in_order : goal.returns-then-not-in_order
+returns-then-not-in_order c =
     let n = c.args.draft.now.counts in
     let m = c.counts-counts.result in
     let l = lists_of c.args.lists.now in
     let out = c.args.out.now in
     let b : Bounded m = search rules in
-    let h = c.if-not-in-order.ensures b in
+    let h = c.if-not-in_order.ensures b in
     record {
       answer = no_answer n m l out c.counts-counts.ensures h;
       left = no-leaves n m l out c.counts-counts.ensures h;
@@ -27,9 +27,9 @@ returns c =
     let out = c.args.out.now in
     let v = seen c.view.result in
     let b : Bounded m = search rules in
-    let h = c.if-not-in-order.ensures b in
+    let h = c.if-not-in_order.ensures b in
     record {
-      answer = yes-answer n m l out c.counts-counts.ensures v h c.view.ensures c.write-page.result c.write-page.ensures.answer;
-      left = yes-leaves n m l out c.counts-counts.ensures v h c.view.ensures c.write-page.new.out c.write-page.ensures.left;
+      answer = yes-answer n m l out c.counts-counts.ensures v h c.view.ensures c.write_page.result c.write_page.ensures.answer;
+      left = yes-leaves n m l out c.counts-counts.ensures v h c.view.ensures c.write_page.new.out c.write_page.ensures.left;
       rightly = search (rules, written-rightly);
     }

@@ -8,19 +8,19 @@ loop-i-init g c =
     let long : v.counts.rows ≤ length v.rows.now = omega arith in
     entries-start g.K.Kind.meaning (take v.counts.quantities v.quantities.now) v.rows.now v.entries.now v.counts.rows c.args.column long
 
-pub returns-then-not-entry-is-lawful : goal.returns-then-not-entry-is-lawful
-returns-then-not-entry-is-lawful g c =
+pub returns-then-not-entry_is_lawful : goal.returns-then-not-entry_is_lawful
+returns-then-not-entry_is_lawful g c =
     let v = c.args.self.now in
     let long : v.counts.rows ≤ length v.rows.now = omega arith in
     entries-here g.K.Kind.meaning (take v.counts.quantities v.quantities.now) v.rows.now v.entries.now v.counts.rows c.args.column long
-    c.loop-i.i _ _ c.loop-i-test.true (omega arith) c.entry-is-lawful.ensures c.if-not-entry-is-lawful.true c.loop-i.invariant
+    c.loop-i.i _ _ c.loop-i-test.true (omega arith) c.entry_is_lawful.ensures c.if-not-entry_is_lawful.true c.loop-i.invariant
 
 pub loop-i-preserved : goal.loop-i-preserved
 loop-i-preserved g c =
     let v = c.args.self.now in
     let long : v.counts.rows ≤ length v.rows.now = omega arith in
     entries-here g.K.Kind.meaning (take v.counts.quantities v.quantities.now) v.rows.now v.entries.now v.counts.rows c.args.column long
-    c.loop-i.i _ _ c.loop-i-test.true (omega arith) c.entry-is-lawful.ensures c.if-not-entry-is-lawful.false c.loop-i.invariant
+    c.loop-i.i _ _ c.loop-i-test.true (omega arith) c.entry_is_lawful.ensures c.if-not-entry_is_lawful.false c.loop-i.invariant
 
 pub returns : goal.returns
 returns g c =

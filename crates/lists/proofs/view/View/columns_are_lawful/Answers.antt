@@ -5,24 +5,24 @@ use Rattle.lists.specs.Rest.{column_lawful}
 use Rattle.lists.proofs.Left.{front-end, columns-here, all_here}
 use Rattle.lists.proofs.view.View.columns_are_lawful.Goals as goal
 
-pub returns-then-not-column-is-lawful : goal.returns-then-not-column-is-lawful
-returns-then-not-column-is-lawful g c =
+pub returns-then-not-column_is_lawful : goal.returns-then-not-column_is_lawful
+returns-then-not-column_is_lawful g c =
     let v = c.args.self.now in
     let long : v.counts.columns ≤ length v.results.now = omega arith in
     let lawful = g.R.ResultKind.results.lawful in
     all_here (column_lawful g.K.Kind.meaning g.R.ResultKind.results (take v.counts.quantities v.quantities.now) (take v.counts.rows v.rows.now)) _
     (columns_from v.entries.now v.counts.rows (c.loop-j.j + 1) (drop (c.loop-j.j + 1) (take v.counts.columns v.results.now))) _
     (columns-here v.entries.now v.counts.rows v.results.now v.counts.columns c.loop-j.j c.index-self-j.result long c.loop-j-test.true)
-    refl (ap (λ b. b && lawful (get_or v.results.now c.loop-j.j c.index-self-j.result)) (sym c.column-is-lawful.ensures ∙ c.if-not-column-is-lawful.true)) c.loop-j.invariant
+    refl (ap (λ b. b && lawful (get_or v.results.now c.loop-j.j c.index-self-j.result)) (sym c.column_is_lawful.ensures ∙ c.if-not-column_is_lawful.true)) c.loop-j.invariant
 
-pub returns-then-not-is-lawful : goal.returns-then-not-is-lawful
-returns-then-not-is-lawful g c =
+pub returns-then-not-is_lawful : goal.returns-then-not-is_lawful
+returns-then-not-is_lawful g c =
     let v = c.args.self.now in
     let long : v.counts.columns ≤ length v.results.now = omega arith in
     all_here (column_lawful g.K.Kind.meaning g.R.ResultKind.results (take v.counts.quantities v.quantities.now) (take v.counts.rows v.rows.now)) _
     (columns_from v.entries.now v.counts.rows (c.loop-j.j + 1) (drop (c.loop-j.j + 1) (take v.counts.columns v.results.now))) _
     (columns-here v.entries.now v.counts.rows v.results.now v.counts.columns c.loop-j.j c.index-self-j.result long c.loop-j-test.true)
-    refl (ap₂ ◌&&◌ (sym c.column-is-lawful.ensures ∙ c.if-not-column-is-lawful.false) (sym c.is-lawful.ensures ∙ c.if-not-is-lawful.true)) c.loop-j.invariant
+    refl (ap₂ ◌&&◌ (sym c.column_is_lawful.ensures ∙ c.if-not-column_is_lawful.false) (sym c.is_lawful.ensures ∙ c.if-not-is_lawful.true)) c.loop-j.invariant
 
 pub loop-j-preserved : goal.loop-j-preserved
 loop-j-preserved g c =
@@ -30,7 +30,7 @@ loop-j-preserved g c =
     let long : v.counts.columns ≤ length v.results.now = omega arith in
     all_here (column_lawful g.K.Kind.meaning g.R.ResultKind.results (take v.counts.quantities v.quantities.now) (take v.counts.rows v.rows.now)) _ _ _
     (columns-here v.entries.now v.counts.rows v.results.now v.counts.columns c.loop-j.j c.index-self-j.result long c.loop-j-test.true)
-    refl (ap₂ ◌&&◌ (sym c.column-is-lawful.ensures ∙ c.if-not-column-is-lawful.false) (sym c.is-lawful.ensures ∙ c.if-not-is-lawful.false)) c.loop-j.invariant
+    refl (ap₂ ◌&&◌ (sym c.column_is_lawful.ensures ∙ c.if-not-column_is_lawful.false) (sym c.is_lawful.ensures ∙ c.if-not-is_lawful.false)) c.loop-j.invariant
 
 pub returns : goal.returns
 returns g c =

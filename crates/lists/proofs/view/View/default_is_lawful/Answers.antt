@@ -8,4 +8,4 @@ pub returns-then-self : goal.returns-then-self
 returns-then-self g c =
     let v = c.args.self.now in
     let h : 16 < length v.results.now = omega arith in
-    c.is-lawful.ensures ∙ sym (ap₂ (λ b o. default_lawful g.R.ResultKind.results (cond b o None)) c.if-self.true (slice_get-get_or v.results.now 16 _ h))
+    c.is_lawful.ensures ∙ sym (ap₂ (λ b o. default_lawful g.R.ResultKind.results (cond b o None)) c.if-self.true (slice_get-get_or v.results.now 16 _ h))

@@ -12,18 +12,18 @@ loop-j-init g c =
     let q : v.counts.nevers - 0 ≡ v.counts.nevers = omega arith in
     ap (λ n. all_of (entries_lawful g.K.Kind.meaning (take v.counts.quantities v.quantities.now) (take v.counts.rows v.rows.now)) (map (λ k. column_of v.entries.now v.counts.rows (16 + k)) (range_with_len 0 n))) q
 
-pub returns-then-not-column-is-lawful : goal.returns-then-not-column-is-lawful
-returns-then-not-column-is-lawful g c =
+pub returns-then-not-column_is_lawful : goal.returns-then-not-column_is_lawful
+returns-then-not-column_is_lawful g c =
     let v = c.args.self.now in
     all_here (entries_lawful g.K.Kind.meaning (take v.counts.quantities v.quantities.now) (take v.counts.rows v.rows.now)) _
     (map (λ k. column_of v.entries.now v.counts.rows (16 + k)) (range_with_len (c.loop-j.j + 1) (v.counts.nevers - (c.loop-j.j + 1)))) _
-    (count-here (λ k. column_of v.entries.now v.counts.rows (16 + k)) v.counts.nevers c.loop-j.j c.loop-j-test.true) c.column-is-lawful.ensures c.if-not-column-is-lawful.true c.loop-j.invariant
+    (count-here (λ k. column_of v.entries.now v.counts.rows (16 + k)) v.counts.nevers c.loop-j.j c.loop-j-test.true) c.column_is_lawful.ensures c.if-not-column_is_lawful.true c.loop-j.invariant
 
 pub loop-j-preserved : goal.loop-j-preserved
 loop-j-preserved g c =
     let v = c.args.self.now in
     all_here (entries_lawful g.K.Kind.meaning (take v.counts.quantities v.quantities.now) (take v.counts.rows v.rows.now)) _ _ _
-    (count-here (λ k. column_of v.entries.now v.counts.rows (16 + k)) v.counts.nevers c.loop-j.j c.loop-j-test.true) c.column-is-lawful.ensures c.if-not-column-is-lawful.false c.loop-j.invariant
+    (count-here (λ k. column_of v.entries.now v.counts.rows (16 + k)) v.counts.nevers c.loop-j.j c.loop-j-test.true) c.column_is_lawful.ensures c.if-not-column_is_lawful.false c.loop-j.invariant
 
 pub returns : goal.returns
 returns g c =

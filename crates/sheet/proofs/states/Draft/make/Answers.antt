@@ -8,12 +8,12 @@ use Rattle.edits.proofs.Permitted.{given-ok, given-err}
 use Rattle.sheet.proofs.InRuns.{edit-made}
 use Rattle.sheet.proofs.states.Draft.make.Goals as goal
 
-pub returns-in-err-self : goal.returns-in-err-self
-returns-in-err-self g c =
+pub returns-in_err-self : goal.returns-in_err-self
+returns-in_err-self g c =
     let n = c.args.self.now.counts in
     let k = edit_of c.args.edit in
     let b : Bounded n = search rules in
-    let h = c.in-err-self.ensures in
+    let h = c.in_err-self.ensures in
     let p = err_from_is_err_and c.from-residual.result c.from-residual.ensures.1 in
     let a = p.1 ∙ ap Err p.2 ∙ given-err (edit_answer g.K.Kind.meaning g.R.ResultKind.results n (lists_of c.args.lists.now) k) _ (counts_after k n) (h.answer b) in
     record {
@@ -28,8 +28,8 @@ returns g c =
     let n = c.args.self.now.counts in
     let k = edit_of c.args.edit in
     let b : Bounded n = search rules in
-    let h = c.in-ok-self.ensures in
-    let a = given-ok (edit_answer g.K.Kind.meaning g.R.ResultKind.results n (lists_of c.args.lists.now) k) c.in-ok-self.field-0 (counts_after k n) (h.answer b) in
+    let h = c.in_ok-self.ensures in
+    let a = given-ok (edit_answer g.K.Kind.meaning g.R.ResultKind.results n (lists_of c.args.lists.now) k) c.in_ok-self.field-0 (counts_after k n) (h.answer b) in
     record {
       answer = a;
       left = h.left b;
