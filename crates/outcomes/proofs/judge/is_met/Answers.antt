@@ -6,19 +6,19 @@ use Rattle.outcomes.proofs.Left.{below_end}
 use Rattle.outcomes.proofs.Steps.{met-here}
 use Rattle.outcomes.proofs.judge.is_met.Goals as goal
 
-pub returns-then-not-entry-holds : goal.returns-then-not-entry-holds
-returns-then-not-entry-holds g c =
+pub returns-then-not-entry_holds : goal.returns-then-not-entry_holds
+returns-then-not-entry_holds g c =
     let long : c.args.view.now.counts.rows ≤ length c.args.view.now.rows.now = omega arith in
     let inside : 24 * c.loop-i.i + c.args.column < length c.args.view.now.entries.now = omega arith in
     met-here g.K.Kind.meaning (encounter_of c.args.e.now) c.args.view.now.rows.now c.args.view.now.entries.now c.args.view.now.counts.rows c.args.column
-    c.loop-i.i (record { quantity = 0; mode = A }) c.index-view-i.result long c.loop-i-test.true inside c.entry-holds.ensures c.if-not-entry-holds.true c.loop-i.invariant
+    c.loop-i.i (record { quantity = 0; mode = A }) c.index-view-i.result long c.loop-i-test.true inside c.entry_holds.ensures c.if-not-entry_holds.true c.loop-i.invariant
 
 pub loop-i-preserved : goal.loop-i-preserved
 loop-i-preserved g c =
     let long : c.args.view.now.counts.rows ≤ length c.args.view.now.rows.now = omega arith in
     let inside : 24 * c.loop-i.i + c.args.column < length c.args.view.now.entries.now = omega arith in
     met-here g.K.Kind.meaning (encounter_of c.args.e.now) c.args.view.now.rows.now c.args.view.now.entries.now c.args.view.now.counts.rows c.args.column
-    c.loop-i.i (record { quantity = 0; mode = A }) c.index-view-i.result long c.loop-i-test.true inside c.entry-holds.ensures c.if-not-entry-holds.false c.loop-i.invariant
+    c.loop-i.i (record { quantity = 0; mode = A }) c.index-view-i.result long c.loop-i-test.true inside c.entry_holds.ensures c.if-not-entry_holds.false c.loop-i.invariant
 
 pub returns : goal.returns
 returns g c =
