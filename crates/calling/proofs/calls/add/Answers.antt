@@ -11,8 +11,8 @@ returns-in_err-ask c =
     let more = cells_from c.args.column 0 c.args.said.now in
     let h = c.in_err-ask.ensures in
     let f = c.in_err-ask.field-0.0 in
-    let r = c.from-residual.result in
+    let r = c.from_residual.result in
     record {
-      went = calls-stop (k ∷ more) k more c.args.draft.now.counts c.ask.new.draft.counts (lists_of c.args.lists.now) (lists_of c.ask.new.lists) refl f r h.went (exited r f c.from-residual.ensures.1);
+      went = calls-stop (k ∷ more) k more c.args.draft.now.counts c.ask.new.draft.counts (lists_of c.args.lists.now) (lists_of c.ask.new.lists) refl f r h.went (exited r f c.from_residual.ensures.1);
       lent = h.lent;
     }

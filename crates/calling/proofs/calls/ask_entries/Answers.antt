@@ -17,7 +17,7 @@ returns-in_err-ask c =
     let is = left-more j i ps _ (asked_of c.entry.result) c.loop-i-test.true c.entry.ensures in
     record {
       went = sym c.loop-i.invariant.0
-          ∙ calls-stop (cells_from j i (drop i ps)) (asked_of c.entry.result) (cells_from j (i + 1) (drop (i + 1) ps)) n c.ask.new.draft.counts l (lists_of c.ask.new.lists) is f c.from-residual.result h.went (exited c.from-residual.result f c.from-residual.ensures.1);
+          ∙ calls-stop (cells_from j i (drop i ps)) (asked_of c.entry.result) (cells_from j (i + 1) (drop (i + 1) ps)) n c.ask.new.draft.counts l (lists_of c.ask.new.lists) is f c.from_residual.result h.went (exited c.from_residual.result f c.from_residual.ensures.1);
       lent = same-on c.loop-i.invariant.1 h.lent;
     }
 

@@ -5,7 +5,7 @@ use Rattle.lexer.proofs.cells.listed.Goals as goal
 
 pub returns-in_err-n : goal.returns-in_err-n
 returns-in_err-n c =
-    c.from-residual.ensures ∙ listed-none c.args.bytes.now c.loop-at.bits c.loop-at.from c.loop-at.at c.until-to.result c.loop-at.invariant (omega arith) c.until-to.ensures.0 c.in_err-n.ensures.value
+    c.from_residual.ensures ∙ listed-none c.args.bytes.now c.loop-at.bits c.loop-at.from c.loop-at.at c.until-to.result c.loop-at.invariant (omega arith) c.until-to.ensures.0 c.in_err-n.ensures.value
 
 pub loop-at-preserved : goal.loop-at-preserved
 loop-at-preserved c =

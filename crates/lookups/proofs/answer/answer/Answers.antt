@@ -7,7 +7,7 @@ use Rattle.lookups.proofs.answer.answer.Goals as goal
 
 pub returns-in_err-found : goal.returns-in_err-found
 returns-in_err-found g c =
-    let p = err_from_is_err_and c.from-residual.result c.from-residual.ensures.1 in
+    let p = err_from_is_err_and c.from_residual.result c.from_residual.ensures.1 in
     p.1 ∙ ap Err p.2 ∙ ap raised c.in_err-found.ensures
     ∙ sym (told-long g.K.Kind.meaning g.R.ResultKind.results (seen c.args.view.now) (encounter_of c.args.e.now) (sym c.is_whole.ensures ∙ c.if-not-is_whole.false))
 

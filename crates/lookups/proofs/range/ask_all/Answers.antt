@@ -8,7 +8,7 @@ pub returns-in_err-ask_flights : goal.returns-in_err-ask_flights
 returns-in_err-ask_flights g c =
     let v = c.args.view.now in
     let long : v.counts.quantities ≤ length v.quantities.now = omega arith in
-    let p = err_from_is_err_and c.from-residual.result c.from-residual.ensures.1 in
+    let p = err_from_is_err_and c.from_residual.result c.from_residual.ensures.1 in
     p.1 ∙ ap Err p.2 ∙ asked-break g.K.Kind.meaning (encounter_of c.args.e.now) v.quantities.now v.counts.quantities long c.loop-i.i _ _ c.loop-i-test.true c.in_err-ask_flights.ensures c.loop-i.invariant
 
 pub loop-i-preserved : goal.loop-i-preserved

@@ -14,7 +14,7 @@ returns-in_err-self g c =
     let k = edit_of c.args.edit in
     let b : Bounded n = search rules in
     let h = c.in_err-self.ensures in
-    let p = err_from_is_err_and c.from-residual.result c.from-residual.ensures.1 in
+    let p = err_from_is_err_and c.from_residual.result c.from_residual.ensures.1 in
     let a = p.1 ∙ ap Err p.2 ∙ given-err (edit_answer g.K.Kind.meaning g.R.ResultKind.results n (lists_of c.args.lists.now) k) _ (counts_after k n) (h.answer b) in
     record {
       answer = a;
