@@ -41,7 +41,7 @@ returns-then-clashing g c = record {
       let fault = again g.K.Kind.meaning g.R.ResultKind.results (seen c.args.view.now) g.met.K.Kind.lawful ok (shown c.args.at.now) w (sought_in g.K.Kind.meaning g.R.ResultKind.results (seen c.args.view.now) Open) (sought_in g.K.Kind.meaning g.R.ResultKind.results (seen c.args.view.now) Fault) c.seek-open.result c.seek-faulty.result (shown c.seek-open.new.at) (shown c.seek-faulty.new.at) first (c.seek-faulty.ensures.after ok first.lengths n) in
       let second = again g.K.Kind.meaning g.R.ResultKind.results (seen c.args.view.now) g.met.K.Kind.lawful ok (shown c.args.at.now) w (sought_in g.K.Kind.meaning g.R.ResultKind.results (seen c.args.view.now) Fault) (sought_in g.K.Kind.meaning g.R.ResultKind.results (seen c.args.view.now) Gap) c.seek-faulty.result c.seek-gap.result (shown c.seek-faulty.new.at) (shown c.seek-gap.new.at) fault (c.seek-gap.ensures.after ok fault.lengths n) in
       let third = again g.K.Kind.meaning g.R.ResultKind.results (seen c.args.view.now) g.met.K.Kind.lawful ok (shown c.args.at.now) w (sought_in g.K.Kind.meaning g.R.ResultKind.results (seen c.args.view.now) Gap) (sought_in g.K.Kind.meaning g.R.ResultKind.results (seen c.args.view.now) Clash) c.seek-gap.result c.seek-clashing.result (shown c.seek-gap.new.at) (shown c.seek-clashing.new.at) second (c.seek-clashing.ensures.after ok second.lengths n) in
-      clash-shown g.K.Kind.meaning g.R.ResultKind.results (seen c.args.view.now) g.met.K.Kind.lawful ok (shown c.args.at.now) w first c.if-not-open.false second c.if-gap.false third c.if-clashing.true (c.clash_fault.ensures ∙ ap (λ e. clash_fault (outcome g.K.Kind.meaning g.R.ResultKind.results (seen c.args.view.now) e)) c.encounter-shown.ensures);
+      clash-shown g.K.Kind.meaning g.R.ResultKind.results (seen c.args.view.now) g.met.K.Kind.lawful ok (shown c.args.at.now) w first c.if-not-open.false second c.if-gap.false third c.if-clashing.true (c.clash-fault.ensures ∙ ap (λ e. clash_fault (outcome g.K.Kind.meaning g.R.ResultKind.results (seen c.args.view.now) e)) c.encounter-shown.ensures);
   lent = same-on (same-on (same-on c.seek-open.ensures.lent c.seek-faulty.ensures.lent) c.seek-gap.ensures.lent) c.seek-clashing.ensures.lent;
 }
 

@@ -15,7 +15,7 @@ pub returns-then-is_sought : goal.returns-then-is_sought
 returns-then-is_sought g c =
     let f = sought_in g.K.Kind.meaning g.R.ResultKind.results (seen c.args.view.now) c.args.sought in
     record {
-      after = λ ok w n. hit g.K.Kind.meaning g.met.K.Kind.lawful g.R.ResultKind.results (seen c.args.view.now) ok f (shown c.args.at.now) c.args.count c.loop-n.-n (shown c.loop-n.at)
+      after = λ ok w n. hit g.K.Kind.meaning g.met.K.Kind.lawful g.R.ResultKind.results (seen c.args.view.now) ok f (shown c.args.at.now) c.args.count c.loop-n._n (shown c.loop-n.at)
           (c.loop-n.invariant.0 ok w n) (c.is_sought.ensures ∙ ap f c.encounter.ensures) c.if-is_sought.true;
       lent = c.loop-n.invariant.1;
     }
@@ -24,7 +24,7 @@ pub returns-then-not-turn : goal.returns-then-not-turn
 returns-then-not-turn g c =
     let f = sought_in g.K.Kind.meaning g.R.ResultKind.results (seen c.args.view.now) c.args.sought in
     record {
-      after = λ ok w n. over g.K.Kind.meaning g.met.K.Kind.lawful g.R.ResultKind.results (seen c.args.view.now) ok f (shown c.args.at.now) c.args.count c.loop-n.-n (shown c.loop-n.at) (shown c.turn.new.at)
+      after = λ ok w n. over g.K.Kind.meaning g.met.K.Kind.lawful g.R.ResultKind.results (seen c.args.view.now) ok f (shown c.args.at.now) c.args.count c.loop-n._n (shown c.loop-n.at) (shown c.turn.new.at)
           (c.loop-n.invariant.0 ok w n) (c.is_sought.ensures ∙ ap f c.encounter.ensures) c.if-is_sought.false c.turn.ensures.after c.if-not-turn.true;
       lent = same-on c.loop-n.invariant.1 c.turn.ensures.lent;
     }
@@ -32,14 +32,14 @@ returns-then-not-turn g c =
 pub loop-n-preserved : goal.loop-n-preserved
 loop-n-preserved g c =
     let f = sought_in g.K.Kind.meaning g.R.ResultKind.results (seen c.args.view.now) c.args.sought in (
-      λ ok w n. step g.K.Kind.meaning g.met.K.Kind.lawful g.R.ResultKind.results (seen c.args.view.now) ok f (shown c.args.at.now) c.args.count c.loop-n.-n (shown c.loop-n.at) (shown c.turn.new.at)
+      λ ok w n. step g.K.Kind.meaning g.met.K.Kind.lawful g.R.ResultKind.results (seen c.args.view.now) ok f (shown c.args.at.now) c.args.count c.loop-n._n (shown c.loop-n.at) (shown c.turn.new.at)
           (c.loop-n.invariant.0 ok w n) (c.is_sought.ensures ∙ ap f c.encounter.ensures) c.if-is_sought.false c.turn.ensures.after c.if-not-turn.false,
       same-on c.loop-n.invariant.1 c.turn.ensures.lent,
     )
 
 pub returns : goal.returns
 returns g c = record {
-  after = λ ok w n. unfinished g.K.Kind.meaning g.met.K.Kind.lawful g.R.ResultKind.results (seen c.args.view.now) ok (sought_in g.K.Kind.meaning g.R.ResultKind.results (seen c.args.view.now) c.args.sought) (shown c.args.at.now) c.args.count c.loop-n.-n (shown c.loop-n.at)
+  after = λ ok w n. unfinished g.K.Kind.meaning g.met.K.Kind.lawful g.R.ResultKind.results (seen c.args.view.now) ok (sought_in g.K.Kind.meaning g.R.ResultKind.results (seen c.args.view.now) c.args.sought) (shown c.args.at.now) c.args.count c.loop-n._n (shown c.loop-n.at)
       c.loop-n-test.false (c.loop-n.invariant.0 ok w n);
   lent = c.loop-n.invariant.1;
 }

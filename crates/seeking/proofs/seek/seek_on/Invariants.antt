@@ -13,5 +13,5 @@ invariant-loop-n g l =
     let r = g.R.ResultKind.results in
     let s = seen l.view in
     ((ok : Acceptable m r s) → whole (shown l.initial.at) ≡ true → length (remaining m s (places s) (shown l.initial.at)) ≡ l.count
-    → On m g.met.K.Kind.lawful r s ok (sought_in m r s l.sought) (shown l.initial.at) l.count l.-n (shown l.at))
+    → On m g.met.K.Kind.lawful r s ok (sought_in m r s l.sought) (shown l.initial.at) l.count l._n (shown l.at))
     × SameShowing l.initial.at l.at
