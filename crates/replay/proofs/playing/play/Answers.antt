@@ -29,5 +29,5 @@ returns g c =
     record {
       replayed = reached-all g.K.Kind.meaning g.R.ResultKind.results c.args.calls.now (lists_of c.args.lists.now) (shown c.args.at.now) c.args.answers.now g.met.K.Kind.lawful g.met.R.ResultKind.equal c.loop-i.i c.loop-i.sheet (lists_of c.loop-i.lists) (shown c.loop-i.at) c.loop-i.answers h.0 (omega arith);
       lent = h.1;
-      lent-showing = h.2;
+      lent_showing = h.2;
     }

@@ -15,5 +15,5 @@ returns g c =
       lent = h.lent;
       rightly = λ first. issued-rightly g.K.Kind.meaning g.met.K.Kind.lawful g.R.ResultKind.results g.met.R.ResultKind.equal (contents_of c.args.self.counts (lists_of c.args.lists.now))
           ((in_order_lem g.K.Kind.meaning g.R.ResultKind.results c.args.self.counts (lists_of c.args.lists.now)).0 first).1 (shown c.args.at.now);
-      in-run = issue-made g.K.Kind.meaning g.met.K.Kind.lawful g.R.ResultKind.results g.met.R.ResultKind.equal c.args.self.counts (lists_of c.args.lists.now) (shown c.args.at.now) c.args.self refl c.examined.result _ h.answer h.left;
+      in_run = issue-made g.K.Kind.meaning g.met.K.Kind.lawful g.R.ResultKind.results g.met.R.ResultKind.equal c.args.self.counts (lists_of c.args.lists.now) (shown c.args.at.now) c.args.self refl c.examined.result _ h.answer h.left;
     }

@@ -20,7 +20,7 @@ returns-in_err-self g c =
       answer = a;
       left = h.left b;
       lent = h.lent;
-      in-run = edit-made g.K.Kind.meaning g.met.K.Kind.lawful g.R.ResultKind.results g.met.R.ResultKind.equal n (lists_of c.args.lists.now) k _ _ _ a (h.left b);
+      in_run = edit-made g.K.Kind.meaning g.met.K.Kind.lawful g.R.ResultKind.results g.met.R.ResultKind.equal n (lists_of c.args.lists.now) k _ _ _ a (h.left b);
     }
 
 pub returns : goal.returns
@@ -34,5 +34,5 @@ returns g c =
       answer = a;
       left = h.left b;
       lent = h.lent;
-      in-run = edit-made g.K.Kind.meaning g.met.K.Kind.lawful g.R.ResultKind.results g.met.R.ResultKind.equal n (lists_of c.args.lists.now) k _ _ _ a (h.left b);
+      in_run = edit-made g.K.Kind.meaning g.met.K.Kind.lawful g.R.ResultKind.results g.met.R.ResultKind.equal n (lists_of c.args.lists.now) k _ _ _ a (h.left b);
     }

@@ -11,5 +11,5 @@ returns g c =
     let answer = c.look_up_in.ensures few in record {
       answer = answer;
       rightly = looked-up-rightly g.K.Kind.meaning g.R.ResultKind.results (contents_of c.args.self.now.counts (lists_of c.args.lists.now)) (encounter_of c.args.e.now);
-      in-run = λ calls h. look-up-in-run g.K.Kind.meaning g.met.K.Kind.lawful g.R.ResultKind.results g.met.R.ResultKind.equal calls c.args.self.now.counts (lists_of c.args.lists.now) (encounter_of c.args.e.now) h c.look_up_in.result answer;
+      in_run = λ calls h. look-up-in-run g.K.Kind.meaning g.met.K.Kind.lawful g.R.ResultKind.results g.met.R.ResultKind.equal calls c.args.self.now.counts (lists_of c.args.lists.now) (encounter_of c.args.e.now) h c.look_up_in.result answer;
     }
