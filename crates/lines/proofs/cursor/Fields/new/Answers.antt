@@ -8,9 +8,9 @@ from_front line = cond-true (leb 0 (length line)) _ _ (le-leb 0 (length line) (o
 
 pub returns : goal.returns
 returns c =
-    let front = from_front c.at-most.result.now in
+    let front = from_front c.at_most.result.now in
     record {
-      left = front ∙ ap (parted 32) c.at-most.ensures.part;
-      whole = λ h. front ∙ ap (parted 32) (c.at-most.ensures.whole h);
+      left = front ∙ ap (parted 32) c.at_most.ensures.part;
+      whole = λ h. front ∙ ap (parted 32) (c.at_most.ensures.whole h);
       byte = refl;
     }

@@ -14,7 +14,7 @@ returns-then-self c = record {
 
 pub returns : goal.returns
 returns c = record {
-  left = lined-more c.args.self.now.page.now c.args.self.now.at c.line-end-to.result c.if-self.false c.line-end-to.ensures.0;
+  left = lined-more c.args.self.now.page.now c.args.self.now.at c.line_end-to.result c.if-self.false c.line_end-to.ensures.0;
   line = refl;
   short = simp (length-take, length-drop) (omega arith);
   at = omega arith;

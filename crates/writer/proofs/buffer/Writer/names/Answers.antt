@@ -7,8 +7,8 @@ loop-n-init c = named_none 32 c.args.bits c.args.self.now
 pub loop-n-preserved : goal.loop-n-preserved
 loop-n-preserved c =
     let l = c.loop-n in
-    named_step 32 c.args.bits l.n l.left l.some _ c.name-step-some.ensures.some
-    (named_more 32 c.args.bits l.n l.left l.some c.loop-n-test.true l.invariant c.name-step-some.ensures.wrote)
+    named_step 32 c.args.bits l.n l.left l.some _ c.name_step-some.ensures.some
+    (named_more 32 c.args.bits l.n l.left l.some c.loop-n-test.true l.invariant c.name_step-some.ensures.wrote)
 
 pub returns : goal.returns
 returns c =
