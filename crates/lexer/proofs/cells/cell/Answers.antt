@@ -1,4 +1,4 @@
-use Rattle.std.proofs.Common.{◌≡◌, get_or, sym, ◌∙◌, arith}
+use Rattle.std.proofs.Common.{sym, ◌∙◌, arith}
 use Rattle.text.proofs.CellSteps.{cell_unmarked}
 use Rattle.lexer.proofs.cells.cell.Goals as goal
 

@@ -1,4 +1,4 @@
-use Rattle.std.proofs.Common.{◌≡◌, arith}
+use Rattle.std.proofs.Common.{arith}
 use Rattle.text.proofs.Parts.{up_to-on, up_to-here, up_to-end}
 use Rattle.lexer.proofs.parts.until.Goals as goal
 

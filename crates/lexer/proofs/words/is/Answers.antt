@@ -1,4 +1,4 @@
-use Rattle.std.proofs.Common.{◌≡◌, length, get_or, sym, ap, ◌∙◌, arith}
+use Rattle.std.proofs.Common.{length, get_or, ap, arith}
 use Rattle.std.proofs.lemmas.List.{ext_get_or}
 use Rattle.text.proofs.Spelling.{apart, alike}
 use Rattle.lexer.proofs.words.is.Goals as goal
