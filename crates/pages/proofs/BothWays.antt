@@ -19,6 +19,7 @@ use Rattle.text.specs.Texts.{Said, said, located, page_text}
 use Rattle.text.specs.declared.types.Section.TheVariants.{Quantities}
 use Rattle.text.proofs.LineTexts.{text-faithful}
 use Rattle.text.proofs.PageTexts.{under-err}
+use Rattle.pages.specs.NameBits.{NoBitBeyond}
 use Rattle.pages.specs.Reads.{PageLists, Went, no_counts, read_lines, read_page, refused_at_once}
 use Rattle.pages.specs.Writes.{lines_of, text_of}
 use Rattle.pages.specs.ThereAndBack.{calls_from, ReadRightly, ReadsBack, WrittenRightly, ThereAndBack}
@@ -77,15 +78,15 @@ said-located : (xs : List Said) → map said (map located xs) ≡ xs
 said-located [] = refl
 said-located (x ∷ xs) = ap (λ y. y ∷ map said (map located xs)) (text-faithful.line.bare _ x) ∙ ap (λ ys. x ∷ ys) (said-located xs)
 
-module _ (c : PageContents) (ok : Acceptable house figures c) where
+module _ (c : PageContents) (ok : Acceptable house figures c) (only : NoBitBeyond c) where
   text-short : length (text_of c) ≤ 65536
-  text-short = let a = text-faithful.short.page Quantities 0 (lines_of c) (lines-ordered c ok) in let b = lines-few c ok in omega arith
+  text-short = let a = text-faithful.short.page Quantities 0 (lines_of c) (lines-ordered c ok only) in let b = lines-few c ok in omega arith
 
   reads-back : (l : PageLists) → RightLengths l → ReadsBack c l
   reads-back l s =
       let page = text_of c in
       let h = empty-held l s in
-      let t = text-faithful.pages.back (lines_of c) (lines-ordered c ok) text-short in
+      let t = text-faithful.pages.back (lines_of c) (lines-ordered c ok only) text-short in
       let a = under-err (leb (length page) 65536) _ too_long (map located (lines_of c)) t in
       let b = under-err (closed page) _ not_closed (map located (lines_of c)) a.1 in
       let o = opens page l (held-ordered h) a.0 b.0 in
@@ -97,10 +98,10 @@ module _ (c : PageContents) (ok : Acceptable house figures c) where
         contents = ap (λ w. contents_of r.0 w.lists) o ∙ r.2.contents;
       }
 
-pub written-rightly : (n : Counts) (l : PageLists) → Bounded n → in_order house figures n l ≡ true → WrittenRightly n l
-written-rightly n l b e =
+pub written-rightly : (n : Counts) (l : PageLists) → Bounded n → in_order house figures n l ≡ true → NoBitBeyond (contents_of n l) → WrittenRightly n l
+written-rightly n l b e only =
     let ok = ((in_order_lem house figures n l).0 e).1 in
-    record { short = text-short (contents_of n l) ok; back = reads-back (contents_of n l) ok }
+    record { short = text-short (contents_of n l) ok only; back = reads-back (contents_of n l) ok only }
 
 pub there_and_back : ThereAndBack
 there_and_back = record { reading = read-rightly; writing = written-rightly }

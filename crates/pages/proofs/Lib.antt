@@ -6,4 +6,5 @@ pub mod ReadLines
 pub mod PageRight
 pub mod Orderly
 pub mod Making
+pub mod OnlyNames
 pub mod BothWays

@@ -18,10 +18,16 @@ use Rattle.text.specs.Texts.{row_right, Said, say_quantity, say_row, say_column,
 use Rattle.text.specs.Words.{rank, place, allowed, section_of}
 use Rattle.text.specs.declared.types.Section.{Section}
 use Rattle.text.specs.declared.types.Section.TheVariants.{Quantities, Rows, Columns, Nevers}
+use Rattle.pages.specs.NameBits.{EntryOnlyNames, NoBitBeyond}
 use Rattle.pages.specs.Writes.{default_lines, lines_of}
 use Rattle.pages.proofs.Agreeing.{PageContents}
 use Rattle.pages.proofs.PageRight.{measure-right, range-right, entries-even, entries-right}
 use Rattle.pages.proofs.Sections.{allowed-place}
+
+-- what two promises of each item give of it together
+All-both : {X : Type 0} (P Q R : X → Type 0) → ((x : X) → P x → Q x → R x) → (xs : List X) → All P xs → All Q xs → All R xs
+All-both P Q R f [] h k = tt
+All-both P Q R f (x ∷ xs) h k = (f x h.0 k.0, All-both P Q R f xs h.1 k.1)
 
 -- lines that may stand in a section may stand in an earlier one
 earlier : (s t : Section) (n : ℕ) (xs : List Said) → rank s ≤ rank t → Ordered t n xs → Ordered s n xs
@@ -47,7 +53,7 @@ rows-first : (i : ℕ) (ws : List Row) (rest : List Said) → All (λ w. row_rig
 rows-first i [] rest h o = let e : i + 0 ≡ i = omega arith in subst (λ n. Ordered Rows n rest) e o
 rows-first i (w ∷ ws) rest h o = let e : i + suc (length ws) ≡ i + 1 + length ws = omega arith in (refl, h.0, rows-first (i + 1) ws rest h.1 (subst (λ n. Ordered Rows n rest) e o))
 
-module _ (c : PageContents) (ok : Acceptable house figures c) where
+module _ (c : PageContents) (ok : Acceptable house figures c) (only : NoBitBeyond c) where
   abbrev qs : List (Quantity Value)
   qs = c.quantities
 
@@ -65,8 +71,8 @@ module _ (c : PageContents) (ok : Acceptable house figures c) where
   abbrev column_line : Column Cell Figure → Said
   column_line k = say_column k.result k.entries
 
-  column-right : (k : Column Cell Figure) → EntriesLawful house qs ws k.entries × (figures.lawful k.result ≡ true) → LineRight n (column_line k)
-  column-right k h = (measure-right k.result.value h.1, entries-even qs ws k.entries h.0, ok.rows.0, entries-right qs ws k.entries h.0)
+  column-right : (k : Column Cell Figure) → EntriesLawful house qs ws k.entries × (figures.lawful k.result ≡ true) → All EntryOnlyNames k.entries → LineRight n (column_line k)
+  column-right k h o = (measure-right k.result.value h.1, entries-even qs ws k.entries h.0, ok.rows.0, entries-right qs ws k.entries h.0 o)
 
   default-ordered : (d : Option Figure) → DefaultLawful figures d → Ordered Nevers n (default_lines d)
   default-ordered None h = tt
@@ -83,9 +89,9 @@ module _ (c : PageContents) (ok : Acceptable house figures c) where
       (rows-first 0 ws columns (All-weaker (λ w. row_lawful house qs w ≡ true) (λ w. row_right w ≡ true) row-right ws ok.rows.1)
       (let e : n ≡ 0 + n = omega arith in subst (λ i. Ordered Rows i columns) e
       (earlier Rows Columns n columns (omega arith)
-      (group Columns n column_line (λ k. (refl, refl, refl)) c.columns nevers (All-weaker _ (λ k. LineRight n (column_line k)) column-right c.columns ok.columns.1)
+      (group Columns n column_line (λ k. (refl, refl, refl)) c.columns nevers (All-both _ _ (λ k. LineRight n (column_line k)) column-right c.columns ok.columns.1 only.columns)
       (earlier Columns Nevers n nevers (omega arith)
-      (group Nevers n say_never (λ es. (refl, refl, refl)) c.nevers end (All-weaker _ (λ es. LineRight n (say_never es)) (λ es h. (entries-even qs ws es h, ok.rows.0, entries-right qs ws es h)) c.nevers ok.nevers.1)
+      (group Nevers n say_never (λ es. (refl, refl, refl)) c.nevers end (All-both _ _ (λ es. LineRight n (say_never es)) (λ es h o. (entries-even qs ws es h, ok.rows.0, entries-right qs ws es h o)) c.nevers ok.nevers.1 only.nevers)
       (default-ordered c.default ok.default))))))))
 
 rooms-both : (xs ys : List Said) → rooms (xs ++ ys) ≡ rooms xs + rooms ys

@@ -12,6 +12,7 @@ use Rattle.items.specs.declared.Row.{Row}
 use Rattle.items.specs.declared.Scope.{Scope}
 use Rattle.tables.specs.Acceptance.{range_lawful, cell_lawful, EntriesLawful}
 use Rattle.text.specs.Texts.{seven_digits, cell_right, entry_right, quantity_right}
+use Rattle.pages.specs.NameBits.{OnlyNames, EntryOnlyNames}
 
 -- a page can have each number, value and cell that is lawful
 pub measure-right : (z : ℤ) → is_measure z ≡ true → seven_digits z ≡ true
@@ -33,24 +34,24 @@ range-right s (Right (Right a)) (Right (Right z)) h =
     let p = and_parts (ltb a 1440) _ h in
     and_from _ _ p.0 (and_parts (ltb z 1440) _ p.1).0
 
-cell-right : (x : Cell) (a z : Value) → house.fits x a z ≡ true → cell_right x ≡ true
-cell-right (Left b) (Left a) (Left z) h =
+cell-right : (x : Cell) (a z : Value) → house.fits x a z ≡ true → OnlyNames x → cell_right x ≡ true
+cell-right (Left b) (Left a) (Left z) h o =
     let p = and_parts (is_measure b.lo) _ h in
     and_from _ _ (measure-right b.lo p.0) (measure-right b.hi (and_parts (is_measure b.hi) _ p.1).0)
-cell-right (Left b) (Left a) (Right z) h = absurd (false≢true h)
-cell-right (Left b) (Right a) z h = absurd (false≢true h)
-cell-right (Right x) (Left a) z h = absurd (false≢true h)
-cell-right (Right x) (Right a) (Left z) h = absurd (false≢true h)
-cell-right (Right (Left s)) (Right (Left a)) (Right (Left z)) h = (and_parts (ltb 0 s.bits) _ h).1
-cell-right (Right (Left s)) (Right (Left a)) (Right (Right z)) h = absurd (false≢true h)
-cell-right (Right (Left s)) (Right (Right a)) (Right z) h = absurd (false≢true h)
-cell-right (Right (Right w)) (Right (Left a)) (Right z) h = absurd (false≢true h)
-cell-right (Right (Right w)) (Right (Right a)) (Right (Left z)) h = absurd (false≢true h)
-cell-right (Right (Right w)) (Right (Right a)) (Right (Right z)) h = h
+cell-right (Left b) (Left a) (Right z) h o = absurd (false≢true h)
+cell-right (Left b) (Right a) z h o = absurd (false≢true h)
+cell-right (Right x) (Left a) z h o = absurd (false≢true h)
+cell-right (Right x) (Right a) (Left z) h o = absurd (false≢true h)
+cell-right (Right (Left s)) (Right (Left a)) (Right (Left z)) h o = lt-ltb s.bits 4294967296 o
+cell-right (Right (Left s)) (Right (Left a)) (Right (Right z)) h o = absurd (false≢true h)
+cell-right (Right (Left s)) (Right (Right a)) (Right z) h o = absurd (false≢true h)
+cell-right (Right (Right w)) (Right (Left a)) (Right z) h o = absurd (false≢true h)
+cell-right (Right (Right w)) (Right (Right a)) (Right (Left z)) h o = absurd (false≢true h)
+cell-right (Right (Right w)) (Right (Right a)) (Right (Right z)) h o = h
 
-lawful-right : (x : Cell) (o : Option (Quantity Value)) → cell_lawful house x o ≡ true → cell_right x ≡ true
-lawful-right x None h = absurd (false≢true h)
-lawful-right x (Some q) h = cell-right x q.least q.greatest h
+lawful-right : (x : Cell) (o : Option (Quantity Value)) → cell_lawful house x o ≡ true → OnlyNames x → cell_right x ≡ true
+lawful-right x None h k = absurd (false≢true h)
+lawful-right x (Some q) h k = cell-right x q.least q.greatest h k
 
 -- entries: one a row
 pub entries-even : (qs : List (Quantity Value)) (ws : List Row) (es : List (Entry Cell)) → EntriesLawful house qs ws es → length es ≡ length ws
@@ -59,9 +60,9 @@ entries-even qs [] (e ∷ es) h = absurd h
 entries-even qs (w ∷ ws) [] h = absurd h
 entries-even qs (w ∷ ws) (e ∷ es) h = let r = entries-even qs ws es h.1 in omega arith
 
-pub entries-right : (qs : List (Quantity Value)) (ws : List Row) (es : List (Entry Cell)) → EntriesLawful house qs ws es → All (λ e. entry_right e ≡ true) es
-entries-right qs [] [] h = tt
-entries-right qs [] (e ∷ es) h = absurd h
-entries-right qs (w ∷ ws) [] h = absurd h
-entries-right qs (w ∷ ws) (Any ∷ es) h = (refl, entries-right qs ws es h.1)
-entries-right qs (w ∷ ws) (CellE x ∷ es) h = (lawful-right x (slice_get qs w.quantity) h.0, entries-right qs ws es h.1)
+pub entries-right : (qs : List (Quantity Value)) (ws : List Row) (es : List (Entry Cell)) → EntriesLawful house qs ws es → All EntryOnlyNames es → All (λ e. entry_right e ≡ true) es
+entries-right qs [] [] h o = tt
+entries-right qs [] (e ∷ es) h o = absurd h
+entries-right qs (w ∷ ws) [] h o = absurd h
+entries-right qs (w ∷ ws) (Any ∷ es) h o = (refl, entries-right qs ws es h.1 o.1)
+entries-right qs (w ∷ ws) (CellE x ∷ es) h o = (lawful-right x (slice_get qs w.quantity) h.0 o.0, entries-right qs ws es h.1 o.1)

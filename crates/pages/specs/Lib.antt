@@ -1,3 +1,4 @@
 pub mod Reads
 pub mod Writes
+pub mod NameBits
 pub mod ThereAndBack

@@ -12,6 +12,7 @@ use Rattle.tables.specs.Storage.{Bounded, RightLengths, contents_of, in_order}
 use Rattle.text.specs.Lines.{Line}
 use Rattle.text.specs.Pages.{page_of}
 use Rattle.text.specs.Texts.{Said, say_quantity, say_row, say_column, say_never, say_default, said}
+use Rattle.pages.specs.NameBits.{NoBitBeyond}
 use Rattle.pages.specs.Reads.{PageLists, read_page}
 use Rattle.pages.specs.Writes.{text_of}
 
@@ -55,7 +56,7 @@ pub record WrittenRightly (n : Counts) (l : PageLists) : Type 0 where
   pub short : length (text_of (contents_of n l)) ≤ 65536
   pub back : (into : PageLists) → RightLengths into → ReadsBack (contents_of n l) into
 
--- both ways, for every page and every sheet
+-- both ways, for every page and every sheet that a program can hold
 pub record ThereAndBack : Type 0 where
   pub reading : (page : List ℕ) (l : PageLists) → ReadRightly page l
-  pub writing : (n : Counts) (l : PageLists) → Bounded n → in_order house figures n l ≡ true → WrittenRightly n l
+  pub writing : (n : Counts) (l : PageLists) → Bounded n → in_order house figures n l ≡ true → NoBitBeyond (contents_of n l) → WrittenRightly n l
