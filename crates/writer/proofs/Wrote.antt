@@ -2,7 +2,6 @@
 use Rattle.std.proofs.Common.{◌≡◌, ℕ, zero, suc, ◌+◌, ◌-◌, ◌/◌, ◌%◌, ◌^◌, ◌<◌, ◌≤◌, Bool, true, false, cond, not, eqb, List, [], ◌∷◌, ◌++◌, map, length, get_or, take, drop, set, ℤ, pos, negsuc, nat_abs, decimal, sym, refl, ap, ◌∙◌, subst, ⊎_elim, arith, w32, SFits, to_z, of_z}
 use lib.Signed.{lt_z}
 use Rattle.std.specs.Fmt.{signed_decimal}
-use Rattle.std.specs.List.{flat_map}
 use Rattle.std.proofs.lemmas.Fmt.{decimal_step, decimal_digit}
 use Rattle.std.proofs.lemmas.List.{append_assoc, append-nil, length-append, take-append-drop, set_split, take_at, drop_at, drop-drop, length-take-le, take_more, flat_map_more, map-append}
 use Rattle.std.proofs.lemmas.Int.{to_z-of_z}
@@ -11,7 +10,7 @@ use Rattle.house.specs.House.{Cell}
 use Rattle.items.specs.declared.Entry.{Entry}
 use Rattle.text.specs.Fields.{followed, rejoined}
 use Rattle.text.specs.Texts.{names_in, band_text, marked_text, entry_text}
-use Rattle.writer.specs.Writing.{put_at, buffer, Wrote, Fresh, Written, name_text, some_after}
+use Rattle.writer.specs.Writing.{put_at, buffer, Wrote, Fresh, name_text, some_after}
 use Rattle.writer.specs.declared.buffer.Writer.{Writer}
 
 cond_same : {X : Type 0} (b : Bool) (x : X) → cond b x x ≡ x

@@ -1,7 +1,7 @@
-use Rattle.std.proofs.Common.{◌≡◌, suc, ◌+◌, ◌-◌, ◌≤◌, [], ◌∷◌, ◌++◌, length, take, set, Ok, Err, sym, ap, ◌∙◌, arith}
+use Rattle.std.proofs.Common.{◌≡◌, suc, ◌+◌, ◌-◌, ◌≤◌, [], ◌∷◌, ◌++◌, length, take, Err, sym, ap, ◌∙◌, arith}
 use Rattle.std.proofs.lemmas.List.{length-set, take_more_set}
 use Rattle.std.proofs.lemmas.Result.{err_from_is_err_and}
-use Rattle.text.specs.Forms.{rest_at, rest}
+use Rattle.text.specs.Forms.{rest_at}
 use Rattle.text.specs.Lines.{in_row}
 use Rattle.text.proofs.LineSteps.{following, entries-more, entries-stop, entries-wrong, entries-all}
 use Rattle.lines.specs.Left.{left, byte}

@@ -1,4 +1,4 @@
-use Rattle.std.proofs.Common.{◌≡◌, refl, arith}
+use Rattle.std.proofs.Common.{refl, arith}
 use Rattle.std.proofs.lemmas.List.{length-take, length-drop}
 use Rattle.text.proofs.LineSteps.{lined-more, lined-none}
 use Rattle.lines.proofs.reader.Reader.next_line.Goals as goal

@@ -1,4 +1,4 @@
-use Rattle.std.proofs.Common.{◌≡◌, map, ap, arith}
+use Rattle.std.proofs.Common.{map, ap, arith}
 use Rattle.std.proofs.lemmas.List.{take_all}
 use Rattle.items.specs.declared.Entry.TheVariants.{Any}
 use Rattle.text.specs.Fields.{followed}

@@ -1,4 +1,4 @@
-use Rattle.std.proofs.Common.{◌≡◌, arith}
+use Rattle.std.proofs.Common.{arith}
 use Rattle.std.proofs.lemmas.List.{take_all}
 use Rattle.writer.proofs.Wrote.{wrote_none, word_more, wrote_as}
 use Rattle.writer.proofs.buffer.Writer.word.Goals as goal
