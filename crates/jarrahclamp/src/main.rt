@@ -7,6 +7,7 @@ use page::told::Report;
 use reading::reading::MOST_BYTES;
 use std::alloc::AllocError;
 use std::io::Read;
+use std::process::ExitCode;
 use std::{env, io};
 
 // Why the program ends with status 1.
@@ -74,10 +75,12 @@ fn explain(rt: &HostRuntime, stop: &Stop) -> io::Result<()> {
     }
 }
 
-fn main(rt: HostRuntime) -> Result<(), Stop> {
-    let end = run(&rt);
-    if let Err(stop) = &end {
-        let _ = explain(&rt, stop);
+fn main(rt: HostRuntime) -> ExitCode {
+    match run(&rt) {
+        Ok(()) => ExitCode::SUCCESS,
+        Err(stop) => {
+            let _ = explain(&rt, &stop);
+            ExitCode::FAILURE
+        }
     }
-    end
 }

@@ -5,15 +5,15 @@
 #![tactic(auto)]
 
 mod again;
+mod analysed;
 mod answers;
 mod published;
-mod tables;
 
 use crate::again::is_written_back;
-use crate::answers::{answer_of, ask, needed, one_line};
-use crate::tables::{
+use crate::analysed::{
     Table, lateral, latitude, other_aircraft, rules, supersonic, teaching, turbojet, vertical,
 };
+use crate::answers::{answer_of, ask, needed, one_line};
 use std::fs;
 
 // Prints the line of a table.
