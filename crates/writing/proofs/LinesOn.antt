@@ -19,6 +19,9 @@ use Rattle.writer.proofs.Wrote.{wrote_none, wrote-more, wrote_as}
 abbrev pub texts : List Said → List ℕ
 texts xs = flat_map line_text xs
 
+-- texts written one after another
+pub ruleset one_after_another = wrote-more
+
 module _ {w v u : Writer} where
   -- one line more
   line_on : (xs : List Said) (x : Said) → Wrote w (texts xs) v → Wrote v (line_text x) u → Wrote w (texts (xs ++ (x ∷ []))) u

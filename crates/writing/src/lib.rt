@@ -3,5 +3,6 @@
 #![tactic(auto)]
 
 mod gathering;
+mod names;
 mod sections;
 pub mod writing;

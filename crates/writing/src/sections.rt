@@ -98,6 +98,7 @@ fn lines(view: &PageView<'_>, writer: &mut Writer<'_>)
 }
 
 // The whole page.
+#[tactic(auto, using(crate::proofs::LinesOn::one_after_another))]
 pub(crate) fn page(view: &PageView<'_>, writer: &mut Writer<'_>)
     ensures { Wrote writer.old (text_of (seen view.now)) writer.new }
 {

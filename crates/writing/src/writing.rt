@@ -9,6 +9,7 @@ ghost use Rattle.tables.specs.Storage.{Bounded, contents_of, in_order};
 ghost use Rattle.writer.specs.Writing.{Fresh, buffer};
 
 use crate::gathering::PageView;
+use crate::names::only_names;
 use crate::sections::page;
 use faults::SheetFault;
 use house::House;
@@ -74,5 +75,6 @@ pub fn write(
     if !lists.in_order(counts) {
         return Err(WriteFault::Call(SheetFault::Lists));
     }
+    only_names(lists.entries);
     write_page(&view(counts, lists), out)
 }

@@ -2,6 +2,7 @@ use Rattle.std.proofs.Common.{rules}
 use Rattle.lists.specs.Held.{lists_of, seen}
 use Rattle.tables.specs.Storage.{Bounded}
 use Rattle.pages.proofs.BothWays.{written-rightly}
+use Rattle.pages.proofs.OnlyNames.{no-bit-beyond}
 use Rattle.writing.proofs.Asked.{no_answer, no-leaves, yes-answer, yes-leaves}
 use Rattle.writing.proofs.writing.write.Goals as goal
 
@@ -16,7 +17,7 @@ returns-then-not-in_order c =
     record {
       answer = no_answer n m l out c.counts-counts.ensures h;
       left = no-leaves n m l out c.counts-counts.ensures h;
-      rightly = search (rules, written-rightly);
+      rightly = λ e. cc (h, c.counts-counts.ensures, e);
     }
 
 pub returns : goal.returns
@@ -28,8 +29,9 @@ returns c =
     let v = seen c.view.result in
     let b : Bounded m = search rules in
     let h = c.if-not-in_order.ensures b in
+    let k : Bounded n = search rules in
     record {
       answer = yes-answer n m l out c.counts-counts.ensures v h c.view.ensures c.write_page.result c.write_page.ensures.answer;
       left = yes-leaves n m l out c.counts-counts.ensures v h c.view.ensures c.write_page.new.out c.write_page.ensures.left;
-      rightly = search (rules, written-rightly);
+      rightly = λ e. written-rightly n l k e (no-bit-beyond n l c.only_names.ensures);
     }
