@@ -1,5 +1,5 @@
 -- The places of the quantities, one quantity after the other. Assumes nothing.
-use Rattle.std.proofs.Common.{◌≡◌, ℕ, suc, ◌+◌, ◌-◌, ◌<◌, ◌≤◌, Bool, true, false, cond, List, [], ◌∷◌, ◌++◌, length, get_or, take, drop, sym, refl, ap, ◌∙◌, subst, ap₂, append_assoc, add-one, arith, take-append-drop, length-take}
+use Rattle.std.proofs.Common.{◌≡◌, ℕ, suc, ◌+◌, ◌-◌, ◌<◌, ◌≤◌, Bool, true, false, cond, List, [], ◌∷◌, ◌++◌, length, get_or, take, drop, sym, refl, ap, ◌∙◌, append_assoc, add-one, arith, take-append-drop, length-take}
 use Rattle.items.specs.declared.Scope.{Scope}
 use Rattle.items.specs.declared.Scope.TheVariants.{Flight, Pair}
 use Rattle.items.specs.declared.Quantity.{Quantity}

@@ -1,4 +1,4 @@
-use Rattle.std.proofs.Common.{◌≡◌, ◌+◌, sym, ◌∙◌}
+use Rattle.std.proofs.Common.{◌+◌}
 use Rattle.tables.specs.Storage.{column_of}
 use Rattle.lists.specs.Held.{encounter_of, seen}
 use Rattle.outcomes.proofs.Steps.{never_here}

@@ -1,4 +1,4 @@
-use Rattle.std.proofs.Common.{◌≡◌, ◌+◌, ◌*◌, ◌<◌, ◌≤◌, length, sym, ◌∙◌, arith}
+use Rattle.std.proofs.Common.{◌+◌, ◌*◌, ◌<◌, ◌≤◌, length, sym, ◌∙◌, arith}
 use Rattle.items.specs.declared.Mode.TheVariants.{A}
 use Rattle.tables.specs.Outcomes.{met}
 use Rattle.lists.specs.Held.{encounter_of}

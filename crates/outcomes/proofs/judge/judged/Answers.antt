@@ -1,4 +1,4 @@
-use Rattle.std.proofs.Common.{◌≡◌, ◌≤◌, length, get_or, sym, ap, ◌∙◌, arith}
+use Rattle.std.proofs.Common.{◌≤◌, length, get_or, sym, ap, ◌∙◌, arith}
 use Rattle.tables.specs.Outcomes.{judged, clash_or_answer}
 use Rattle.lists.specs.Held.{encounter_of, seen}
 use Rattle.outcomes.proofs.Steps.{judged-here, column-end}

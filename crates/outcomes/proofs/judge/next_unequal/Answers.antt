@@ -1,4 +1,4 @@
-use Rattle.std.proofs.Common.{◌≡◌, ◌≤◌, length, sym, ap, ◌∙◌, arith}
+use Rattle.std.proofs.Common.{◌≤◌, length, sym, ap, ◌∙◌, arith}
 use Rattle.tables.specs.Outcomes.{unequal}
 use Rattle.lists.specs.Held.{encounter_of, seen}
 use Rattle.outcomes.proofs.Steps.{unequal-here, column-end}

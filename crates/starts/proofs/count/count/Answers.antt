@@ -1,4 +1,4 @@
-use Rattle.std.proofs.Common.{◌≡◌, ◌≤◌, length, arith}
+use Rattle.std.proofs.Common.{◌≤◌, length, arith}
 use Rattle.tables.specs.Starts.{count}
 use Rattle.lists.specs.Held.{seen}
 use Rattle.starts.proofs.Counting.{counted-here, counted-over, counted-all}

@@ -1,4 +1,4 @@
-use Rattle.std.proofs.Common.{◌≡◌, ◌+◌, ◌*◌, ◌<◌, ◌≤◌, length, arith}
+use Rattle.std.proofs.Common.{◌+◌, ◌*◌, ◌<◌, ◌≤◌, length, arith}
 use Rattle.items.specs.declared.Mode.TheVariants.{A}
 use Rattle.starts.proofs.Stopping.{stop-here, stop-end}
 use Rattle.starts.proofs.next.column_stop.Goals as goal

@@ -1,4 +1,3 @@
-use Rattle.std.proofs.Common.{◌≡◌}
 use Rattle.tables.specs.Starts.{reading}
 use Rattle.tables.specs.Storage.{column_of}
 use Rattle.lists.specs.Held.{seen}

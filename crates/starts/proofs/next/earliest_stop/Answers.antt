@@ -1,4 +1,4 @@
-use Rattle.std.proofs.Common.{◌≡◌, ◌≤◌, length, arith}
+use Rattle.std.proofs.Common.{◌≤◌, length, arith}
 use Rattle.lists.specs.Held.{seen}
 use Rattle.starts.proofs.Stopping.{all-cells}
 use Rattle.starts.proofs.next.earliest_stop.Goals as goal

@@ -1,4 +1,4 @@
-use Rattle.std.proofs.Common.{◌≡◌, ◌≤◌, length, arith}
+use Rattle.std.proofs.Common.{◌≤◌, length, arith}
 use Rattle.tables.specs.Contents.{places}
 use Rattle.tables.specs.Starts.{reset}
 use Rattle.lists.specs.Held.{seen, shown}

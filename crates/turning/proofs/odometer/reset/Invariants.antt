@@ -1,4 +1,4 @@
-use Rattle.std.proofs.Common.{◌≡◌, take, drop}
+use Rattle.std.proofs.Common.{◌≡◌, drop}
 use Rattle.tables.specs.Contents.{places, places_from}
 use Rattle.tables.specs.Starts.{reset}
 use Rattle.lists.specs.Held.{SameShowing, seen, shown}

@@ -1,4 +1,4 @@
-use Rattle.std.proofs.Common.{◌≡◌, ◌-◌, ◌<◌, ◌≤◌, length, refl, arith}
+use Rattle.std.proofs.Common.{◌-◌, ◌<◌, ◌≤◌, length, refl, arith}
 use Rattle.lists.specs.Held.{seen, shown}
 use Rattle.turning.proofs.Turns.{same-on, turned-start, turned-step, turned-rest}
 use Rattle.turning.proofs.odometer.turn.Goals as goal

@@ -1,4 +1,4 @@
-use Rattle.std.proofs.Common.{◌≡◌, false, take, drop}
+use Rattle.std.proofs.Common.{◌≡◌, false, drop}
 use Rattle.tables.specs.Contents.{places_from}
 use Rattle.tables.specs.Starts.{turned}
 use Rattle.lists.specs.Held.{SameShowing, seen, shown}
