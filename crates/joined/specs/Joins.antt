@@ -1,5 +1,5 @@
 -- Either of two kinds, left values before right ones. Assumes nothing.
-use Rattle.std.specs.Prelude.{ℕ, ◌+◌, Bool, true, false, Some, None, Option}
+use Rattle.std.specs.Prelude.{ℕ, ◌+◌, Bool, false, None, Option}
 use Rattle.std.specs.Option.{option_map}
 use Rattle.joined.specs.declared.Either.{Either}
 use Rattle.joined.specs.declared.Either.TheVariants.{Left, Right}
