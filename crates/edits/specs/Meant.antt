@@ -1,5 +1,5 @@
 -- What an edit is by the definitions of a sheet, and what it tells and leaves. Assumes nothing.
-use Rattle.std.specs.Prelude.{◌≡◌, ℕ, ◌<◌, Some, None, Ok, Err, Option, Result}
+use Rattle.std.specs.Prelude.{◌≡◌, ◌<◌, Some, None, Ok, Err, Option, Result}
 use Rattle.kinds.specs.Meaning.{Meaning}
 use Rattle.results.specs.Results.{Results}
 use Rattle.faults.specs.declared.SheetFault.{SheetFault}

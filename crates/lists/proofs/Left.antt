@@ -1,5 +1,5 @@
 -- A loop over a part of a sheet: what is left of it gives the answer for the whole. Assumes nothing.
-use Rattle.std.proofs.Common.{◌≡◌, ℕ, suc, ◌+◌, ◌-◌, ◌*◌, ◌<◌, ◌≤◌, min, Bool, true, false, ◌&&◌, List, [], ◌∷◌, map, length, get_or, take, drop, Some, None, sym, refl, ap, ◌∙◌, ap₂, add-one, arith, length-take, get_or-take}
+use Rattle.std.proofs.Common.{◌≡◌, ℕ, suc, ◌+◌, ◌-◌, ◌*◌, ◌<◌, ◌≤◌, min, Bool, true, ◌&&◌, List, [], ◌∷◌, map, length, get_or, take, drop, Some, None, sym, refl, ap, ◌∙◌, ap₂, add-one, arith, length-take, get_or-take}
 use Rattle.std.specs.List.{slice_get, range_with_len}
 use Rattle.std.proofs.lemmas.Option.{slice_get-get_or, slice_get_past}
 use Rattle.std.proofs.lemmas.List.{drop_more, drop_all, get_or_default}
@@ -9,7 +9,6 @@ use Rattle.items.specs.declared.Entry.TheVariants.{Any}
 use Rattle.items.specs.declared.Quantity.{Quantity}
 use Rattle.kinds.specs.Meaning.{Meaning}
 use Rattle.tables.specs.Words.{all_of}
-use Rattle.tables.specs.Contents.{Column}
 use Rattle.tables.specs.Acceptance.{entry_lawful, entries_lawful}
 use Rattle.tables.specs.Storage.{column_of, columns_from}
 use Rattle.lists.specs.Rest.{entries_from}

@@ -1,22 +1,20 @@
 -- A call that is made in a run answers what is said of the contents that the calls before it make, and leaves what it should. Assumes nothing.
-use Rattle.std.proofs.Common.{◌≡◌, ℕ, Bool, true, false, cond, ◌⊎◌, List, [], ◌∷◌, ◌++◌, is_err, Some, None, Ok, Err, Option, Result, sym, refl, ap, ◌∙◌, subst, inl, inr, ⊎_elim, arith}
+use Rattle.std.proofs.Common.{◌≡◌, ℕ, true, cond, List, [], ◌∷◌, ◌++◌, is_err, None, Ok, Err, Option, Result, sym, refl, ap, ◌∙◌, subst, inl, inr, ⊎_elim, arith}
 use Rattle.kinds.specs.Meaning.{Meaning, Lawful}
-use Rattle.faults.specs.declared.LookupFault.{LookupFault}
 use Rattle.faults.specs.declared.LookupFault.TheVariants.{Barred}
 use Rattle.faults.specs.declared.SheetFault.{SheetFault}
 use Rattle.faults.specs.declared.SheetFault.TheVariants.{Lookup}
 use Rattle.results.specs.Results.{Results, Equal}
 use Rattle.items.specs.declared.Counts.{Counts}
-use Rattle.tables.specs.Contents.{Contents, Encounter, exchange, InRange}
+use Rattle.tables.specs.Contents.{Encounter, InRange}
 use Rattle.tables.specs.Outcomes.{outcome, answer}
 use Rattle.tables.specs.Acceptance.{Acceptable}
-use Rattle.tables.specs.Issues.{issue, answered, refused, written}
+use Rattle.tables.specs.Issues.{issue, answered, refused}
 use Rattle.tables.specs.Lookups.{Look, short_for, no_result, found, look_up, told}
-use Rattle.tables.specs.Calls.{Edit, Call, edit, try_issue, look_up as looking_up, withdraw, Status, draft, issued, Sheet, first_no, asked, edited, unless_refused, made_by, after, made}
-use Rattle.tables.specs.Storage.{Lists, Bounded, RightLengths, contents_of, Kept, opened_on, kept_unless, kept_by, in_order}
+use Rattle.tables.specs.Calls.{Edit, Call, edit, try_issue, look_up as looking_up, withdraw, Status, draft, issued, first_no, asked, made_by, made}
+use Rattle.tables.specs.Storage.{Lists, RightLengths, contents_of, Kept, opened_on, kept_unless, kept_by, in_order}
 use Rattle.tables.specs.Answers.{AnsweredFor, edit_answer, issue_answer, issue_writes, look_up_answer}
 use Rattle.tables.specs.LookedUp.{Tells}
-use Rattle.tables.specs.Promises.{EveryRun}
 use Rattle.tables.proofs.Answering.{answered-for}
 use Rattle.tables.proofs.Editing.{edited-rightly}
 use Rattle.tables.proofs.Running.{every-run}

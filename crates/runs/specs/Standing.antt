@@ -7,7 +7,7 @@ use Rattle.faults.specs.declared.SheetFault.{SheetFault}
 use Rattle.faults.specs.declared.SheetFault.TheVariants.{Lookup}
 use Rattle.results.specs.Results.{Results}
 use Rattle.items.specs.declared.Counts.{Counts}
-use Rattle.tables.specs.Contents.{Contents, Encounter, exchange, whole, InRange}
+use Rattle.tables.specs.Contents.{Encounter, exchange, whole, InRange}
 use Rattle.tables.specs.Starts.{count}
 use Rattle.tables.specs.Issues.{issue, answered, written, limit}
 use Rattle.tables.specs.Lookups.{look_up, told}

@@ -13,11 +13,11 @@ use Rattle.joined.specs.declared.Either.TheVariants.{Left, Right}
 use Rattle.house.specs.House.{Cell}
 use Rattle.items.specs.declared.Entry.{Entry}
 use Rattle.items.specs.declared.Entry.TheVariants.{Any, Cell as CellE}
-use Rattle.text.specs.Forms.{Form, Faithful}
+use Rattle.text.specs.Forms.{Faithful}
 use Rattle.text.specs.Fields.{up_to, parted, rejoined, followed}
 use Rattle.text.specs.Numbers.{number, measure, time}
-use Rattle.text.specs.Cells.{band_cell, names_cell, window_cell, chain, both, dots, band, window, member, members, listed, names, unmarked, cell, entry}
-use Rattle.text.specs.Texts.{seven_digits, two_digits, time_text, band_text, marked_text, names_in, window_text, cell_text, cell_right, entry_text, entry_right}
+use Rattle.text.specs.Cells.{band_cell, names_cell, window_cell, chain, both, dots, band, window, member, members, listed, names, cell, entry}
+use Rattle.text.specs.Texts.{seven_digits, time_text, band_text, marked_text, names_in, window_text, cell_text, cell_right, entry_text, entry_right}
 use Rattle.text.specs.Promises.{entry_form}
 use Rattle.text.proofs.FieldTexts.{own, some-under, numbers, measures, times}
 use Rattle.text.proofs.Parts.{Free, apart-free, whole}

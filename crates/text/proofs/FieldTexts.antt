@@ -1,5 +1,5 @@
 -- Fields: what is written of a value reads back, and what was read is written back.
-use Rattle.std.proofs.Common.{◌≡◌, ℕ, suc, ◌+◌, ◌-◌, ◌*◌, ◌/◌, ◌%◌, ◌^◌, ◌<◌, ◌≤◌, Bool, true, false, cond, not, ◌&&◌, ◌||◌, eqb, ltb, leb, ◌⊎◌, List, [], ◌∷◌, ◌++◌, length, get_or, take, drop, ℤ, pos, negsuc, Some, None, decimal, Option, sym, refl, ap, ◌∙◌, subst, inl, inr, ⊎_elim, arith, rules}
+use Rattle.std.proofs.Common.{◌≡◌, ℕ, suc, ◌+◌, ◌-◌, ◌*◌, ◌/◌, ◌%◌, ◌^◌, ◌<◌, ◌≤◌, Bool, true, false, cond, not, ◌&&◌, ◌||◌, eqb, ltb, leb, List, [], ◌∷◌, ◌++◌, length, get_or, ℤ, pos, negsuc, Some, None, decimal, Option, sym, refl, ap, ◌∙◌, subst, ⊎_elim, arith, rules}
 use Rattle.std.specs.Str.{all_ascii_digits, bytes_eq}
 use Rattle.std.specs.List.{AllByRecursion as All}
 use Rattle.std.specs.Char.{is_ascii_digit}
@@ -7,14 +7,14 @@ use Rattle.std.specs.Fmt.{signed_decimal}
 use Rattle.std.proofs.lemmas.Slice.Eq.{bytes_eq-Decides}
 use Rattle.std.proofs.lemmas.Str.Parse.{IsNumeralModel, numerals_by_fold, digits_value_short}
 use Rattle.std.proofs.lemmas.Fmt.{digits_decimal, digits_value-decimal, length-decimal-le, decimal_nonempty, first_decimal, decimal_digit, decimal-digits_value}
-use Rattle.std.proofs.lemmas.Bool.{cond-true, cond-false, eq-eqb, ne_eqb, and_from, and_parts, ltb-true, leb-true, eqb-true, lt-ltb, le-leb, cases_lt, cases_Bool}
+use Rattle.std.proofs.lemmas.Bool.{cond-true, cond-false, ne_eqb, and_from, and_parts, ltb-true, leb-true, eqb-true, lt-ltb, le-leb, cases_lt, cases_Bool}
 use Rattle.std.proofs.lemmas.Bool.Decides.{nat_tests}
 use Rattle.joined.specs.declared.Either.TheVariants.{Left, Right}
 use Rattle.house.specs.House.{Value}
 use Rattle.items.specs.declared.Mode.{Mode}
 use Rattle.items.specs.declared.Mode.TheVariants.{A, B, Both, Either, Pair}
-use Rattle.text.specs.Forms.{Form, Faithful}
-use Rattle.text.specs.Numbers.{digit, value_after, numeral, number, below, above, measure, figures, minutes, time}
+use Rattle.text.specs.Forms.{Faithful}
+use Rattle.text.specs.Numbers.{value_after, numeral, number, below, above, measure, figures, minutes, time}
 use Rattle.text.specs.Words.{worded, modes, mode, kinds, kind, first_words, first_word, measure_value, name_value, minute_value, each, value}
 use Rattle.text.specs.Texts.{seven_digits, two_digits, mode_text, kind_text, word_text, value_right, value_text, kind_of}
 use Rattle.text.specs.Promises.{number_form, measure_form, mode_form, kind_form, word_form, time_form, value_form}

@@ -1,5 +1,5 @@
 -- How long a line is at most.
-use Rattle.std.proofs.Common.{◌≡◌, ℕ, zero, suc, ◌+◌, ◌*◌, ◌/◌, ◌%◌, ◌<◌, ◌≤◌, Bool, true, false, cond, ◌&&◌, eqb, List, [], ◌∷◌, ◌++◌, map, length, ℤ, pos, negsuc, decimal, sym, refl, ap, ◌∙◌, arith}
+use Rattle.std.proofs.Common.{◌≡◌, ℕ, zero, suc, ◌+◌, ◌*◌, ◌/◌, ◌%◌, ◌<◌, ◌≤◌, Bool, true, false, cond, eqb, List, [], ◌∷◌, ◌++◌, map, length, ℤ, pos, negsuc, decimal, ap, ◌∙◌, arith}
 use Rattle.std.specs.Fmt.{signed_decimal}
 use Rattle.std.specs.List.{flat_map, AllByRecursion as All}
 use Rattle.std.proofs.lemmas.Fmt.{length-decimal-le}
@@ -16,7 +16,7 @@ use Rattle.items.specs.declared.Entry.TheVariants.{Any, Cell as CellE}
 use Rattle.text.specs.Fields.{followed, rejoined}
 use Rattle.text.specs.Words.{section_of}
 use Rattle.text.specs.Lines.{rows_after}
-use Rattle.text.specs.Texts.{seven_digits, time_text, mode_text, kind_text, word_text, value_text, kind_of, value_right, band_text, marked_text, names_in, names_text, window_text, cell_text, cell_right, entry_text, entry_right, Said, say_quantity, say_row, say_column, say_never, say_default, scope_word, word_of, fields_of, line_body, line_text, LineRight, Ordered, page_text, room, rooms}
+use Rattle.text.specs.Texts.{seven_digits, mode_text, kind_text, word_text, value_text, kind_of, value_right, band_text, marked_text, names_in, names_text, cell_text, cell_right, entry_text, entry_right, Said, say_quantity, say_row, say_column, say_never, say_default, scope_word, word_of, line_text, LineRight, Ordered, page_text, room, rooms}
 use Rattle.text.specs.Promises.{Lines-short}
 use Rattle.text.specs.declared.types.KindWord.{KindWord}
 use Rattle.text.specs.declared.types.KindWord.TheVariants.{Measure, Names, Clock}

@@ -1,5 +1,5 @@
 -- Lines and pages: what is written reads back, and what was read is written back.
-use Rattle.std.proofs.Common.{◌≡◌, ℕ, zero, suc, ◌+◌, ◌<◌, ◌≤◌, Bool, true, false, cond, ◌&&◌, ltb, leb, List, [], ◌∷◌, ◌++◌, map, length, Some, None, Ok, Err, codes, Option, Result, sym, refl, ap, ◌∙◌, subst, arith}
+use Rattle.std.proofs.Common.{◌≡◌, ℕ, zero, suc, ◌+◌, ◌<◌, ◌≤◌, true, ◌&&◌, ltb, leb, List, [], ◌∷◌, ◌++◌, map, length, Some, None, Ok, Err, codes, Option, Result, sym, refl, ap, ◌∙◌, subst, arith}
 use Rattle.std.specs.Fmt.{signed_decimal}
 use Rattle.std.specs.List.{flat_map, AllByRecursion as All}
 use Rattle.std.proofs.ByRecursion.{All-append}
@@ -17,7 +17,7 @@ use Rattle.text.specs.Words.{first_word, allowed, section_of, rank, place}
 use Rattle.text.specs.Lines.{quantity, row, result, placed, in_row, entries, column, default, Line, quantity_line, row_line, column_line, never_line, default_line, line_of, rows_after}
 use Rattle.text.specs.Pages.{lined, Refused, in_section, word_at, in_line, line_at, lines_of, page_of}
 use Rattle.text.specs.Texts.{seven_digits, entry_right, entry_text, kind_of, quantity_fields, quantity_right, row_fields, row_right, Said, say_quantity, say_row, say_column, say_never, say_default, unplaced, said, scope_word, word_text, word_of, fields_of, line_body, placed_from, located_at, located, LineRight, Ordered, page_text}
-use Rattle.text.specs.Promises.{number_form, measure_form, mode_form, kind_form, value_form, entry_form, Line-faithful, Lines-faithful, Pages-faithful, Text-faithful}
+use Rattle.text.specs.Promises.{number_form, measure_form, mode_form, kind_form, value_form, entry_form, Text-faithful}
 use Rattle.text.specs.declared.types.Word.{Word}
 use Rattle.text.specs.declared.types.Word.TheVariants.{Flight, Pair as PairW, Row as RowW, Column, Never, Default, End}
 use Rattle.text.specs.declared.types.Section.{Section}

@@ -1,4 +1,4 @@
-use Rattle.std.proofs.Common.{◌≡◌, cond, Some, sym, refl, ap, ◌∙◌, ap₂}
+use Rattle.std.proofs.Common.{Some, sym, ap, ◌∙◌, ap₂}
 use Rattle.std.proofs.lemmas.Bool.{cond-true}
 use Rattle.faults.specs.declared.SheetFault.TheVariants.{Lists as WrongLists}
 use Rattle.tables.specs.Calls.{asked, first_no}

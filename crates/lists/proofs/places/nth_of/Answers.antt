@@ -1,4 +1,4 @@
-use Rattle.std.proofs.Common.{◌≡◌, ◌<◌, ◌≤◌, min, length, Some, sym, ap, ◌∙◌, subst, arith}
+use Rattle.std.proofs.Common.{◌<◌, ◌≤◌, min, length, Some, sym, ap, ◌∙◌, arith}
 use Rattle.lists.proofs.Left.{nth-front, nth-front-past}
 use Rattle.lists.proofs.places.nth_of.Goals as goal
 

@@ -1,4 +1,4 @@
-use Rattle.std.proofs.Common.{◌≡◌, ◌&&◌, sym, refl, ap, ◌∙◌, ap₂}
+use Rattle.std.proofs.Common.{◌&&◌, sym, refl, ◌∙◌, ap₂}
 use Rattle.tables.specs.Acceptance.{acceptable}
 use Rattle.tables.specs.Storage.{contents_of}
 use Rattle.lists.proofs.lent.Lists.asked.Goals as goal

@@ -1,4 +1,4 @@
-use Rattle.std.proofs.Common.{◌≡◌, ◌+◌, ◌*◌, ◌<◌, ◌≤◌, length, take, sym, ◌∙◌, arith}
+use Rattle.std.proofs.Common.{◌≤◌, length, take, sym, ◌∙◌, arith}
 use Rattle.lists.proofs.Left.{entries-start, entries-here, entries-end}
 use Rattle.lists.proofs.view.View.column_is_lawful.Goals as goal
 

@@ -1,4 +1,4 @@
-use Rattle.std.proofs.Common.{◌≡◌, ◌+◌, ◌≤◌, ◌&&◌, length, get_or, take, drop, sym, refl, ap, ◌∙◌, ap₂, arith}
+use Rattle.std.proofs.Common.{◌+◌, ◌≤◌, ◌&&◌, length, get_or, take, drop, sym, refl, ap, ◌∙◌, ap₂, arith}
 use Rattle.tables.specs.Storage.{columns_from}
 use Rattle.tables.specs.Words.{all_of}
 use Rattle.lists.specs.Rest.{column_lawful}

@@ -1,5 +1,4 @@
-use Rattle.std.proofs.Common.{◌≡◌, ◌<◌, cond, length, Some, None, sym, ap, ◌∙◌, ap₂, arith}
-use Rattle.std.specs.List.{slice_get}
+use Rattle.std.proofs.Common.{◌<◌, cond, length, None, sym, ◌∙◌, ap₂, arith}
 use Rattle.std.proofs.lemmas.Option.{slice_get-get_or}
 use Rattle.tables.specs.Acceptance.{default_lawful}
 use Rattle.lists.proofs.view.View.default_is_lawful.Goals as goal

@@ -1,4 +1,4 @@
-use Rattle.std.proofs.Common.{◌≡◌, ◌+◌, ◌≤◌, true, ◌&&◌, leb, map, length, take, sym, ◌∙◌, ap₂, arith, length-take}
+use Rattle.std.proofs.Common.{◌+◌, ◌≤◌, ◌&&◌, map, length, take, sym, ◌∙◌, ap₂, arith, length-take}
 use Rattle.std.specs.List.{range_with_len}
 use Rattle.std.proofs.lemmas.List.FromFn.{length-map-range_with_len}
 use Rattle.std.proofs.lemmas.Bool.{le-leb}

@@ -1,4 +1,4 @@
-use Rattle.std.proofs.Common.{◌≡◌, ◌+◌, ◌≤◌, length, take, drop, sym, refl, ap, ◌∙◌, arith}
+use Rattle.std.proofs.Common.{◌+◌, ◌≤◌, length, take, drop, sym, ap, ◌∙◌, arith}
 use Rattle.tables.specs.Acceptance.{range_lawful}
 use Rattle.tables.specs.Words.{all_of}
 use Rattle.lists.proofs.Left.{front_read, front-end, all_here}
