@@ -1,12 +1,12 @@
 -- Issue after its first question. Assumes nothing.
-use Rattle.std.proofs.Common.{◌≡◌, ℕ, true, false, cond, Err, Result, sym, refl, ap, ◌∙◌, subst, ap₂}
+use Rattle.std.proofs.Common.{◌≡◌, ℕ, true, false, Err, Result, sym, ap, ◌∙◌, subst, ap₂}
 use Rattle.std.proofs.lemmas.Bool.{cond-true, cond-false}
 use Rattle.faults.specs.declared.SheetFault.{SheetFault}
 use Rattle.faults.specs.declared.SheetFault.TheVariants.{Lists as WrongLists}
 use Rattle.items.specs.declared.Counts.{Counts}
 use Rattle.kinds.specs.Meaning.{Meaning, Lawful}
 use Rattle.results.specs.Results.{Results, Equal}
-use Rattle.tables.specs.Contents.{Contents, Encounter}
+use Rattle.tables.specs.Contents.{Encounter}
 use Rattle.tables.specs.Acceptance.{Acceptable}
 use Rattle.tables.specs.Storage.{Lists, contents_of, in_order}
 use Rattle.tables.specs.Issues.{issue, answered, written}

@@ -1,9 +1,8 @@
 -- Where a script has come after its first calls, and how one more call brings it on. Assumes nothing.
-use Rattle.std.proofs.Common.{◌≡◌, ℕ, ◌+◌, ◌<◌, ◌≤◌, Bool, true, false, ◌&&◌, List, [], ◌∷◌, ◌++◌, length, get_or, take, drop, set, sym, refl, ap, ◌∙◌, subst, ap₂, append_assoc, arith}
+use Rattle.std.proofs.Common.{◌≡◌, ℕ, ◌+◌, ◌<◌, Bool, true, false, ◌&&◌, List, [], ◌∷◌, ◌++◌, length, get_or, take, drop, set, sym, refl, ap, ◌∙◌, subst, ap₂, append_assoc, arith}
 use Rattle.std.proofs.lemmas.List.{take_more, take_all, drop_more, length_push, set_at}
 use Rattle.kinds.specs.Meaning.{Meaning, Lawful}
 use Rattle.results.specs.Results.{Results, Equal}
-use Rattle.items.specs.declared.Counts.{Counts}
 use Rattle.tables.specs.Calls.{draft}
 use Rattle.tables.specs.Contents.{Encounter}
 use Rattle.tables.specs.Storage.{Lists, opened_on, right_lengths, in_order}

@@ -1,20 +1,19 @@
 -- A call of a script brings it to its next point. Assumes nothing.
-use Rattle.std.proofs.Common.{◌≡◌, ℕ, suc, ◌+◌, ◌<◌, ◌≤◌, true, cond, List, [], ◌∷◌, ◌++◌, length, get_or, take, drop, set, Some, None, Option, sym, refl, ap, ◌∙◌, subst, ap₂, arith}
+use Rattle.std.proofs.Common.{◌≡◌, cond, List, [], ◌∷◌, ◌++◌, sym, refl, ap, ◌∙◌, subst, ap₂}
 use Rattle.std.proofs.lemmas.Bool.{cond-true}
 use Rattle.kinds.specs.Meaning.{Meaning, Lawful}
-use Rattle.faults.specs.declared.SheetFault.{SheetFault}
 use Rattle.results.specs.Results.{Results, Equal}
 use Rattle.items.specs.declared.Counts.{Counts}
 use Rattle.tables.specs.Answers.{edit_answer, issue_answer, issue_writes, look_up_answer}
 use Rattle.tables.specs.Calls.{Call, edit, try_issue, look_up, withdraw, Status, draft, issued, first_no, asked, made}
-use Rattle.tables.specs.Contents.{Contents, Encounter}
+use Rattle.tables.specs.Contents.{Encounter}
 use Rattle.tables.specs.Issues.{issue, answered, refused}
 use Rattle.tables.specs.Storage.{Lists, Kept, contents_of, opened_on, in_order, kept_unless, kept_by, kept_after}
 use Rattle.runs.specs.Standing.{by_answer, Stands}
 use Rattle.runs.proofs.Standing.{by-refusal, in-order-standing, edit-in-run, issue-in-run, look-up-in-run, withdraw-in-run}
 use Rattle.edits.specs.Meant.{told}
 use Rattle.sheet.proofs.InRuns.{kept-unless}
-use Rattle.replay.specs.Scripts.{done_by, issued_by, found_by, call_of, Played, answer_to, shown_after, called, onward, played}
+use Rattle.replay.specs.Scripts.{done_by, issued_by, found_by, call_of, Played, answer_to, shown_after, called, onward}
 use Rattle.replay.specs.Steps.{Stepped, step_shown}
 use Rattle.replay.specs.Replays.{At}
 use Rattle.replay.specs.declared.script.Answer.{Answer}

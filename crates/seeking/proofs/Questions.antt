@@ -1,7 +1,7 @@
 -- The questions of issue, one after the other. Assumes nothing.
-use Rattle.std.proofs.Common.{◌≡◌, ℕ, ◌≤◌, Bool, true, false, cond, not, ◌&&◌, ◌||◌, leb, List, [], ◌∷◌, is_some, Some, None, Ok, Err, Option, unwrap_or, sym, refl, ap, ◌∙◌, subst}
+use Rattle.std.proofs.Common.{◌≡◌, ℕ, Bool, true, false, cond, not, ◌&&◌, ◌||◌, leb, List, [], ◌∷◌, is_some, Some, None, Ok, Err, Option, unwrap_or, sym, refl, ap, ◌∙◌, subst}
 use Rattle.std.specs.Option.{option_map}
-use Rattle.std.proofs.lemmas.Bool.{both_ways, or_parts, cond-true, cond-false, cond_both, lt-leb, le-leb}
+use Rattle.std.proofs.lemmas.Bool.{both_ways, or_parts, cond-true, cond-false, cond_both}
 use Rattle.faults.specs.declared.SheetFault.{SheetFault}
 use Rattle.faults.specs.declared.SheetFault.TheVariants.{EncounterLists, TooManyEncounters, AllBarred, Gap as GapFault, Asymmetry as AsymmetryFault}
 use Rattle.kinds.specs.Meaning.{Meaning, Lawful}

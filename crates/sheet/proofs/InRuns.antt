@@ -1,5 +1,5 @@
 -- What a call answers and leaves, as a call of a run. Assumes nothing.
-use Rattle.std.proofs.Common.{◌≡◌, ℕ, true, false, List, Some, None, Ok, Err, Option, Result, sym, refl, ap, ◌∙◌, ap₂}
+use Rattle.std.proofs.Common.{◌≡◌, ℕ, List, Some, None, Ok, Err, Option, Result, sym, refl, ap, ◌∙◌, ap₂}
 use Rattle.std.proofs.lemmas.Bool.{true≢false}
 use Rattle.std.specs.Result.{result_err}
 use Rattle.kinds.specs.Meaning.{Meaning, Lawful}
@@ -8,7 +8,7 @@ use Rattle.results.specs.Results.{Results, Equal}
 use Rattle.items.specs.declared.Counts.{Counts}
 use Rattle.tables.specs.Contents.{Encounter}
 use Rattle.tables.specs.Calls.{Edit, Call, draft, issued}
-use Rattle.tables.specs.Storage.{Lists, Kept, in_order, counts_after, lists_after, kept_unless}
+use Rattle.tables.specs.Storage.{Lists, in_order, counts_after, lists_after, kept_unless}
 use Rattle.tables.specs.Answers.{edit_answer, issue_answer, issue_writes}
 use Rattle.runs.specs.Standing.{Stands, EditInRun, IssueInRun, WithdrawInRun}
 use Rattle.runs.proofs.Standing.{in-order-standing, edit-in-run, issue-in-run, withdraw-in-run}

@@ -1,4 +1,4 @@
-use Rattle.std.proofs.Common.{◌≡◌, ap, ◌∙◌, rules}
+use Rattle.std.proofs.Common.{ap, ◌∙◌, rules}
 use Rattle.lists.specs.Held.{lists_of}
 use Rattle.tables.specs.Storage.{Bounded, in_order}
 use Rattle.replay.proofs.Reaching.{opened-in-order}

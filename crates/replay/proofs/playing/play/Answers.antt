@@ -1,4 +1,4 @@
-use Rattle.std.proofs.Common.{◌≡◌, ◌<◌, length, sym, refl, ◌∙◌, subst, arith}
+use Rattle.std.proofs.Common.{◌<◌, length, sym, refl, ◌∙◌, subst, arith}
 use Rattle.lists.specs.Held.{lists_of, shown}
 use Rattle.replay.proofs.Reaching.{Reached, reached-none, reached-more, reached-all}
 use Rattle.replay.proofs.playing.play.Goals as goal

@@ -1,4 +1,4 @@
-use Rattle.std.proofs.Common.{◌≡◌, sym, ap, ◌∙◌, subst}
+use Rattle.std.proofs.Common.{ap, ◌∙◌}
 use Rattle.tables.specs.Outcomes.{outcome}
 use Rattle.lists.specs.Held.{seen, shown}
 use Rattle.seeking.specs.declared.sought.Sought.TheVariants.{Open, Gap, Clash, Asymmetry, Fault}

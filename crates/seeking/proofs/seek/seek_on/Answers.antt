@@ -1,4 +1,4 @@
-use Rattle.std.proofs.Common.{◌≡◌, refl, ap, ◌∙◌}
+use Rattle.std.proofs.Common.{refl, ap, ◌∙◌}
 use Rattle.lists.specs.Held.{seen, shown}
 use Rattle.seeking.specs.Seeks.{sought_in}
 use Rattle.turning.proofs.Turns.{same-on}
