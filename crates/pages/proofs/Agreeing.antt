@@ -1,6 +1,6 @@
 -- Draft calls that are all accepted: what they make of contents, and of the counts and lists that hold these. Assumes nothing.
 use Rattle.std.proofs.Common.{◌≡◌, ℕ, ◌+◌, ◌≤◌, true, List, [], ◌∷◌, ◌++◌, map, length, take, Some, None, Ok, Option, sym, refl, ap, ◌∙◌, subst, arith, length-take}
-use Rattle.std.specs.List.{AllByRecursion as All}
+use Rattle.std.specs.List.{AllByRecursion}
 use Rattle.std.proofs.lemmas.List.FromFn.{length-map-range_with_len}
 use Rattle.house.specs.House.{Value, Cell, house}
 use Rattle.items.specs.declared.Counts.{Counts}
@@ -30,7 +30,7 @@ PageEdit = Edit Value Cell Figure
 
 -- every question of an edit is answered yes
 abbrev pub Agreed : PageEdit → PageContents → Type 0
-Agreed k c = All (λ q. q.0 ≡ true) (asked house figures k c)
+Agreed k c = AllByRecursion (λ q. q.0 ≡ true) (asked house figures k c)
 
 -- and so for edits one after the other
 abbrev pub AllAgreed : List PageEdit → PageContents → Type 0

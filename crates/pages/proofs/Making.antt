@@ -1,6 +1,6 @@
 -- The lines of a sheet that the draft calls would accept are a way from no contents to its contents. Assumes nothing.
 use Rattle.std.proofs.Common.{◌≡◌, ℕ, suc, ◌+◌, ◌-◌, ◌<◌, ◌≤◌, true, ltb, List, [], ◌∷◌, ◌++◌, map, length, set, Some, None, Option, sym, refl, ap, ◌∙◌, subst, append_assoc, append-nil, arith, length-append}
-use Rattle.std.specs.List.{slice_get, AllByRecursion as All}
+use Rattle.std.specs.List.{slice_get, AllByRecursion}
 use Rattle.std.proofs.lemmas.Bool.{and_from, cond-true, cond-false, lt-ltb, le-ltb}
 use Rattle.house.specs.House.{Value, Cell, house}
 use Rattle.items.specs.declared.Entry.{Entry}
@@ -22,7 +22,7 @@ use Rattle.pages.proofs.Ways.{Taken, taken, Way, way_then}
 
 -- lines of one kind, up to n: each adds its item behind the others
 way-all : {X : Type 0} (P : X → Type 0) (n : ℕ) (g : X → Said) (f : List X → PageContents) → ((xs : List X) (x : X) → length xs < n → P x → Taken (f xs) (g x) × (added (g x) (f xs) ≡ f (xs ++ (x ∷ []))))
-    → (xs rest : List X) → length xs + length rest ≤ n → All P rest → Way (f xs) (map g rest) (f (xs ++ rest))
+    → (xs rest : List X) → length xs + length rest ≤ n → AllByRecursion P rest → Way (f xs) (map g rest) (f (xs ++ rest))
 way-all P n g f put xs [] l a = ap f (sym (append-nil xs))
 way-all P n g f put xs (x ∷ rest) l a =
     let s = put xs x (omega arith) a.0 in (

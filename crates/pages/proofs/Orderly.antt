@@ -1,6 +1,6 @@
 -- The lines of a sheet that the draft calls would accept stand in order, a page can have each of them, and they are short. Assumes nothing.
 use Rattle.std.proofs.Common.{◌≡◌, ℕ, suc, ◌+◌, ◌*◌, ◌≤◌, true, ltb, leb, List, [], ◌∷◌, ◌++◌, map, length, Some, None, Option, sym, refl, subst, mul-suc, arith}
-use Rattle.std.specs.List.{AllByRecursion as All}
+use Rattle.std.specs.List.{AllByRecursion}
 use Rattle.std.proofs.ByRecursion.{All-weaker}
 use Rattle.std.proofs.lemmas.Bool.{and_from, cond-true, le-leb, lt-ltb}
 use Rattle.house.specs.House.{Value, Cell, house}
@@ -25,7 +25,7 @@ use Rattle.pages.proofs.PageRight.{measure-right, range-right, entries-even, ent
 use Rattle.pages.proofs.Sections.{allowed-place}
 
 -- what two promises of each item give of it together
-All-both : {X : Type 0} (P Q R : X → Type 0) → ((x : X) → P x → Q x → R x) → (xs : List X) → All P xs → All Q xs → All R xs
+All-both : {X : Type 0} (P Q R : X → Type 0) → ((x : X) → P x → Q x → R x) → (xs : List X) → AllByRecursion P xs → AllByRecursion Q xs → AllByRecursion R xs
 All-both P Q R f [] h k = tt
 All-both P Q R f (x ∷ xs) h k = (f x h.0 k.0, All-both P Q R f xs h.1 k.1)
 
@@ -39,7 +39,7 @@ earlier s t n (x ∷ xs) h o =
 
 -- lines of one section before others
 group : {X : Type 0} (t : Section) (n : ℕ) (f : X → Said) → ((x : X) → (allowed t (word_of (f x)) ≡ Some (section_of (word_of (f x)))) × (section_of (word_of (f x)) ≡ t) × (rows_after (word_of (f x)) n ≡ n))
-    → (xs : List X) (rest : List Said) → All (λ x. LineRight n (f x)) xs → Ordered t n rest → Ordered t n (map f xs ++ rest)
+    → (xs : List X) (rest : List Said) → AllByRecursion (λ x. LineRight n (f x)) xs → Ordered t n rest → Ordered t n (map f xs ++ rest)
 group t n f a [] rest h o = o
 group t n f a (x ∷ xs) rest h o =
     let r = group t n f a xs rest h.1 o in
@@ -49,7 +49,7 @@ scope-first : (s : Scope) → (allowed Quantities (scope_word s) ≡ Some (secti
 scope-first Flight = (refl, refl, refl)
 scope-first Pair = (refl, refl, refl)
 
-rows-first : (i : ℕ) (ws : List Row) (rest : List Said) → All (λ w. row_right w ≡ true) ws → Ordered Rows (i + length ws) rest → Ordered Rows i (map say_row ws ++ rest)
+rows-first : (i : ℕ) (ws : List Row) (rest : List Said) → AllByRecursion (λ w. row_right w ≡ true) ws → Ordered Rows (i + length ws) rest → Ordered Rows i (map say_row ws ++ rest)
 rows-first i [] rest h o = let e : i + 0 ≡ i = omega arith in subst (λ n. Ordered Rows n rest) e o
 rows-first i (w ∷ ws) rest h o = let e : i + suc (length ws) ≡ i + 1 + length ws = omega arith in (refl, h.0, rows-first (i + 1) ws rest h.1 (subst (λ n. Ordered Rows n rest) e o))
 
@@ -71,7 +71,7 @@ module _ (c : PageContents) (ok : Acceptable house figures c) (only : NoBitBeyon
   abbrev column_line : Column Cell Figure → Said
   column_line k = say_column k.result k.entries
 
-  column-right : (k : Column Cell Figure) → EntriesLawful house qs ws k.entries × (figures.lawful k.result ≡ true) → All EntryOnlyNames k.entries → LineRight n (column_line k)
+  column-right : (k : Column Cell Figure) → EntriesLawful house qs ws k.entries × (figures.lawful k.result ≡ true) → AllByRecursion EntryOnlyNames k.entries → LineRight n (column_line k)
   column-right k h o = (measure-right k.result.value h.1, entries-even qs ws k.entries h.0, ok.rows.0, entries-right qs ws k.entries h.0 o)
 
   default-ordered : (d : Option Figure) → DefaultLawful figures d → Ordered Nevers n (default_lines d)

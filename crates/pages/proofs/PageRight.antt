@@ -1,6 +1,6 @@
 -- A page can have each item that is lawful. Assumes nothing.
 use Rattle.std.proofs.Common.{◌≡◌, true, ltb, leb, List, [], ◌∷◌, length, ℤ, pos, negsuc, Some, None, Option, refl, arith}
-use Rattle.std.specs.List.{slice_get, AllByRecursion as All}
+use Rattle.std.specs.List.{slice_get, AllByRecursion}
 use Rattle.std.proofs.lemmas.Bool.{and_from, and_parts, false≢true, leb-true, lt-ltb, ltb-true}
 use Rattle.joined.specs.declared.Either.TheVariants.{Left, Right}
 use Rattle.measure.specs.Measures.{is_measure}
@@ -60,7 +60,7 @@ entries-even qs [] (e ∷ es) h = absurd h
 entries-even qs (w ∷ ws) [] h = absurd h
 entries-even qs (w ∷ ws) (e ∷ es) h = let r = entries-even qs ws es h.1 in omega arith
 
-pub entries-right : (qs : List (Quantity Value)) (ws : List Row) (es : List (Entry Cell)) → EntriesLawful house qs ws es → All EntryOnlyNames es → All (λ e. entry_right e ≡ true) es
+pub entries-right : (qs : List (Quantity Value)) (ws : List Row) (es : List (Entry Cell)) → EntriesLawful house qs ws es → AllByRecursion EntryOnlyNames es → AllByRecursion (λ e. entry_right e ≡ true) es
 entries-right qs [] [] h o = tt
 entries-right qs [] (e ∷ es) h o = absurd h
 entries-right qs (w ∷ ws) [] h o = absurd h

@@ -2,7 +2,7 @@
 -- this: only these definitions can, to which the bits of a set are any number. What is said of writing a page assumes it,
 -- since a page tells of the 32 names alone. What is said of reading one does not. Assumes nothing.
 use Rattle.std.specs.Prelude.{◌<◌, ◌^◌}
-use Rattle.std.specs.List.{AllByRecursion as All}
+use Rattle.std.specs.List.{AllByRecursion}
 use Rattle.joined.specs.declared.Either.TheVariants.{Left, Right}
 use Rattle.house.specs.House.{Value, Cell}
 use Rattle.items.specs.declared.Entry.{Entry}
@@ -23,5 +23,5 @@ EntryOnlyNames (CellE x) = OnlyNames x
 
 -- contents whose entries are all so
 pub record NoBitBeyond (c : Contents Value Cell Figure) : Type 0 where
-  pub columns : All (λ k. All EntryOnlyNames k.entries) c.columns
-  pub nevers : All (λ es. All EntryOnlyNames es) c.nevers
+  pub columns : AllByRecursion (λ k. AllByRecursion EntryOnlyNames k.entries) c.columns
+  pub nevers : AllByRecursion (λ es. AllByRecursion EntryOnlyNames es) c.nevers

@@ -1,6 +1,6 @@
 -- What a sheet that is kept in counts and lists stands for, and what each call does that is made in a run of calls. Assumes nothing.
 use Rattle.std.specs.Prelude.{◌≡◌, ℕ, ◌≤◌, true, ◌⊎◌, List, [], ◌∷◌, ◌++◌, None, Ok, Err, Option, Result}
-use Rattle.std.specs.List.{AllByRecursion as All}
+use Rattle.std.specs.List.{AllByRecursion}
 use Rattle.kinds.specs.Meaning.{Meaning}
 use Rattle.faults.specs.declared.LookupFault.TheVariants.{Barred}
 use Rattle.faults.specs.declared.SheetFault.{SheetFault}
@@ -56,9 +56,9 @@ module _ {V C R : Type 0} (m : Meaning V C) (r : Results R) (calls : List (Call 
     -- an encounter in range is barred or has a result
     pub settled : whole e ≡ true → InRange m (made m r calls).contents e → (said ≡ Err (Lookup Barred)) ⊎ ((x : R) × (said ≡ Ok x))
     -- each column that it meets bears the result that is told, and any two of them the same
-    pub agreed : (x : R) → said ≡ Ok x → All (λ k. Meets m r (made m r calls).contents e k → r.same x k.result ≡ true) (made m r calls).contents.columns
+    pub agreed : (x : R) → said ≡ Ok x → AllByRecursion (λ k. Meets m r (made m r calls).contents e k → r.same x k.result ≡ true) (made m r calls).contents.columns
     pub same_result : (x : R) → said ≡ Ok x
-        → All (λ k. Meets m r (made m r calls).contents e k → All (λ l. Meets m r (made m r calls).contents e l → r.same k.result l.result ≡ true) (made m r calls).contents.columns) (made m r calls).contents.columns
+        → AllByRecursion (λ k. Meets m r (made m r calls).contents e k → AllByRecursion (λ l. Meets m r (made m r calls).contents e l → r.same k.result l.result ≡ true) (made m r calls).contents.columns) (made m r calls).contents.columns
     -- with the flights exchanged barred stays barred, and the result stays the same
     pub still_barred : said ≡ Err (Lookup Barred) → told (look_up m r (made m r calls).contents (exchange (made m r calls).contents e)) ≡ Err (Lookup Barred)
     pub still_found : (x : R) → said ≡ Ok x

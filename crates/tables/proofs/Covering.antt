@@ -1,6 +1,6 @@
 -- Inside a lawful range, lawful cells answer at each value as they do at some start. Assumes nothing.
 use Rattle.std.proofs.Common.{◌≡◌, ℕ, zero, suc, ◌-◌, ◌<◌, ◌≤◌, true, leb, ◌⊎◌, List, [], ◌∷◌, Some, None, Option, sym, refl, ap, ◌∙◌, subst, inl, inr, arith}
-use Rattle.std.specs.List.{AllByRecursion as All}
+use Rattle.std.specs.List.{AllByRecursion}
 use Rattle.std.proofs.lemmas.Bool.{cond_both, leb-true, leb-false, cases_lt}
 use Rattle.kinds.specs.Meaning.{Meaning, Lawful, Before}
 use Rattle.kinds.proofs.Earliest.{before-both, earlier-keeps}
@@ -48,27 +48,27 @@ module _ {V C : Type 0} (m : Meaning V C) (law : Lawful m) where
     In s = (m.rank a ≤ m.rank s) × (m.rank s ≤ m.rank z)
 
     -- the starts lie in range
-    pub starts-within : (xs : List C) (n : ℕ) (v : V) → m.rank a ≤ m.rank v → m.rank v ≤ m.rank z → All In (starts_from m n xs z v)
+    pub starts-within : (xs : List C) (n : ℕ) (v : V) → m.rank a ≤ m.rank v → m.rank v ≤ m.rank z → AllByRecursion In (starts_from m n xs z v)
     starts-within xs zero v p q = tt
     starts-within xs (suc n) v p q = (
       (p, q),
       elim (next-cases m.rank z (earliest m xs v)) [
-        | inl h ↦ subst (λ o. All In (onward (starts_from m n xs z) o)) (sym h.1.0) (starts-within xs n h.0 (omega (arith, earliest-later xs v h.0 h.1.1.0)) h.1.1.1)
-        | inr h ↦ subst (λ o. All In (onward (starts_from m n xs z) o)) (sym h.0) tt
+        | inl h ↦ subst (λ o. AllByRecursion In (onward (starts_from m n xs z) o)) (sym h.1.0) (starts-within xs n h.0 (omega (arith, earliest-later xs v h.0 h.1.1.0)) h.1.1.1)
+        | inr h ↦ subst (λ o. AllByRecursion In (onward (starts_from m n xs z) o)) (sym h.0) tt
       ],
     )
 
     module _ (r : m.range a z ≡ true) (w : V) (k : m.rank w ≤ m.rank z) where
       abbrev pub Same : List C → V → Type 0
-      Same xs v = All (λ x. m.holds x v ≡ m.holds x w) xs
+      Same xs v = AllByRecursion (λ x. m.holds x v ≡ m.holds x w) xs
 
-      steady : (xs : List C) → All (λ x. m.fits x a z ≡ true) xs → (v : V) → m.rank a ≤ m.rank v → m.rank v ≤ m.rank w → Before m.rank w (earliest m xs v) → Same xs v
+      steady : (xs : List C) → AllByRecursion (λ x. m.fits x a z ≡ true) xs → (v : V) → m.rank a ≤ m.rank v → m.rank v ≤ m.rank w → Before m.rank w (earliest m xs v) → Same xs v
       steady [] f v p q h = tt
       steady (x ∷ xs) f v p q h =
           let b = before-both m.rank (m.stop x v) (earliest m xs v) w h in
           (law.steady x a z v w r f.0 p q k b.0, steady xs f.1 v p q b.1)
 
-      pub covered : (xs : List C) → All (λ x. m.fits x a z ≡ true) xs → (n : ℕ) (v : V) → m.rank z - m.rank v < n → m.rank a ≤ m.rank v → m.rank v ≤ m.rank w → Any (Same xs) (starts_from m n xs z v)
+      pub covered : (xs : List C) → AllByRecursion (λ x. m.fits x a z ≡ true) xs → (n : ℕ) (v : V) → m.rank z - m.rank v < n → m.rank a ≤ m.rank v → m.rank v ≤ m.rank w → Any (Same xs) (starts_from m n xs z v)
       covered xs f zero v b p q = absurd (omega arith)
       covered xs f (suc n) v b p q =
           elim (next-cases m.rank z (earliest m xs v)) [

@@ -1,6 +1,6 @@
 -- Each edit changes its item and nothing else. Assumes nothing.
 use Rattle.std.proofs.Common.{◌≡◌, ℕ, zero, suc, ◌+◌, ◌-◌, ◌<◌, true, ltb, List, [], ◌∷◌, ◌++◌, map, length, take, set, Some, sym, refl, ap, ◌∙◌, subst, arith}
-use Rattle.std.specs.List.{slice_get, AllByRecursion as All}
+use Rattle.std.specs.List.{slice_get, AllByRecursion}
 use Rattle.std.proofs.lemmas.List.{length-map}
 use Rattle.std.proofs.lemmas.Bool.{cond-true, cond-false, lt-ltb, le-ltb, ltb-true}
 use Rattle.kinds.specs.Meaning.{Meaning}
@@ -56,7 +56,7 @@ last-gone (x ∷ (y ∷ xs)) h =
 any-in-each : (C : Type 0) (ws : List Row) → AnyInEach {C = C} ws (any_of ws)
 any-in-each C ws = (length-map ws (λ w. Any), all ws)
   where
-    all : (ws : List Row) → All (λ x. x ≡ Any) (any_of {C = C} ws)
+    all : (ws : List Row) → AllByRecursion (λ x. x ≡ Any) (any_of {C = C} ws)
     all [] = tt
     all (w ∷ ws) = (refl, all ws)
 
@@ -76,7 +76,7 @@ module _ {V C R : Type 0} (m : Meaning V C) (r : Results R) (c : Contents V C R)
         record { quantities = refl; rows = refl; columns = refl; default = refl },
       )
 
-  changes : (k : Edit V C R) → All (λ q. q.0 ≡ true) (asked m r k c) → Changes k c (edited k c)
+  changes : (k : Edit V C R) → AllByRecursion (λ q. q.0 ≡ true) (asked m r k c) → Changes k c (edited k c)
   changes (name_quantity q) y = (refl, record { rows = refl; columns = refl; nevers = refl; default = refl })
   changes (add_row w) y = (
     refl,

@@ -1,6 +1,6 @@
 -- What each outcome means. Assumes nothing.
 use Rattle.std.proofs.Common.{◌≡◌, ℕ, suc, ◌+◌, true, false, ◌⊎◌, List, [], ◌∷◌, length, Some, None, Option, sym, refl, ap, ◌∙◌, subst, inl, inr, zero-add, arith}
-use Rattle.std.specs.List.{AllByRecursion as All}
+use Rattle.std.specs.List.{AllByRecursion}
 use Rattle.std.proofs.lemmas.Bool.{cond_both, cond-true, cond-false, cases_Bool, or_cases, or_parts, false≢true}
 use Rattle.kinds.specs.Meaning.{Meaning}
 use Rattle.items.specs.declared.Entry.{Entry}
@@ -19,7 +19,7 @@ module _ {V C R : Type 0} (m : Meaning V C) (r : Results R) (c : Contents V C R)
   abbrev Lowest : ℕ → List (Column C R) → Type 0
   Lowest n xs = (k : Cut (Unmet m r c e) (Meets m r c e) xs) × ((i : ℕ) × ((i ≡ n + length k.before) × (found n xs ≡ (i, k.here.result) ∷ found (suc i) k.rest)))
 
-  lowest : (n : ℕ) (xs : List (Column C R)) → ((found n xs ≡ []) × All (Unmet m r c e) xs) ⊎ Lowest n xs
+  lowest : (n : ℕ) (xs : List (Column C R)) → ((found n xs ≡ []) × AllByRecursion (Unmet m r c e) xs) ⊎ Lowest n xs
   lowest n [] = inl (refl, tt)
   lowest n (x ∷ xs) = elim (cases_Bool (met m c.rows x.entries e)) [
     | inl t ↦ inr (record { before = []; here = x; rest = xs; is = refl; all = tt; found = t }, (n, (omega arith, cond-true (met m c.rows x.entries e) ((n, x.result) ∷ found (suc n) xs) (found (suc n) xs) t)))
@@ -33,11 +33,11 @@ module _ {V C R : Type 0} (m : Meaning V C) (r : Results R) (c : Contents V C R)
   abbrev Unequal : R → ℕ → List (Column C R) → Type 0
   Unequal t n xs = (l : Cut (Agrees m r c e t) (Disagrees m r c e t) xs) × ((j : ℕ) × ((j ≡ n + length l.before) × (unequal r t (found n xs) ≡ Some j)))
 
-  next-unequal : (t : R) (n : ℕ) (xs : List (Column C R)) → ((unequal r t (found n xs) ≡ None) × All (Agrees m r c e t) xs) ⊎ Unequal t n xs
+  next-unequal : (t : R) (n : ℕ) (xs : List (Column C R)) → ((unequal r t (found n xs) ≡ None) × AllByRecursion (Agrees m r c e t) xs) ⊎ Unequal t n xs
   next-unequal t n [] = inl (refl, tt)
   next-unequal t n (x ∷ xs) =
       let rest = next-unequal t (suc n) xs in
-      let on : Agrees m r c e t x → unequal r t (found n (x ∷ xs)) ≡ unequal r t (found (suc n) xs) → ((unequal r t (found n (x ∷ xs)) ≡ None) × All (Agrees m r c e t) (x ∷ xs)) ⊎ Unequal t n (x ∷ xs) = λ a skip.
+      let on : Agrees m r c e t x → unequal r t (found n (x ∷ xs)) ≡ unequal r t (found (suc n) xs) → ((unequal r t (found n (x ∷ xs)) ≡ None) × AllByRecursion (Agrees m r c e t) (x ∷ xs)) ⊎ Unequal t n (x ∷ xs) = λ a skip.
       elim rest [
         | inl h ↦ inl (skip ∙ h.0, (a, h.1))
         | inr h ↦ inr (longer (Agrees m r c e t) (Disagrees m r c e t) x xs a h.0, (h.1.0, (omega (arith, h.1.1.0), skip ∙ h.1.1.1)))
@@ -51,7 +51,7 @@ module _ {V C R : Type 0} (m : Meaning V C) (r : Results R) (c : Contents V C R)
         | inr f ↦ on (λ y. absurd (false≢true (sym f ∙ y))) (ap (unequal r t) (cond-false (met m c.rows x.entries e) ((n, x.result) ∷ found (suc n) xs) (found (suc n) xs) f))
       ]
 
-  by_default : (d : Option R) → c.default ≡ d → NoNever m r c e → All (Unmet m r c e) c.columns → Fits m r c e (judged r d [])
+  by_default : (d : Option R) → c.default ≡ d → NoNever m r c e → AllByRecursion (Unmet m r c e) c.columns → Fits m r c e (judged r d [])
   by_default None q nn u = (nn, u, q)
   by_default (Some x) q nn u = (nn, inr (u, q))
 
@@ -73,7 +73,7 @@ module _ {V C R : Type 0} (m : Meaning V C) (r : Results R) (c : Contents V C R)
   some-never [] h = absurd (false≢true h)
   some-never (n ∷ ns) h = elim (or_cases (met m c.rows n e) (some_met m c.rows ns e) h) [ inl t ↦ inl t | inr t ↦ inr (some-never ns t) ]
 
-  no_never : (ns : List (List (Entry C))) → some_met m c.rows ns e ≡ false → All (λ n. met m c.rows n e ≡ false) ns
+  no_never : (ns : List (List (Entry C))) → some_met m c.rows ns e ≡ false → AllByRecursion (λ n. met m c.rows n e ≡ false) ns
   no_never [] h = tt
   no_never (n ∷ ns) h = let t = or_parts (met m c.rows n e) (some_met m c.rows ns e) h in (t.0, no_never ns t.1)
 

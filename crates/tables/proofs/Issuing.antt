@@ -1,6 +1,6 @@
 -- What issue answers is so of all encounters in range. Assumes nothing.
 use Rattle.std.proofs.Common.{◌≡◌, ℕ, ◌≤◌, true, false, leb, ◌⊎◌, List, [], ◌∷◌, Some, None, Decides, Option, sym, refl, ap, ◌∙◌, subst, inl, inr, arith}
-use Rattle.std.specs.List.{AllByRecursion as All}
+use Rattle.std.specs.List.{AllByRecursion}
 use Rattle.std.proofs.ByRecursion.{All-weaker}
 use Rattle.std.proofs.lemmas.Bool.{cond_both, leb-true, leb-false, and_parts, and_cases, false≢true, true≢false}
 use Rattle.kinds.specs.Meaning.{Meaning, Lawful}
@@ -84,11 +84,11 @@ module _ {V C R : Type 0} (m : Meaning V C) (law : Lawful m) (r : Results R) (eq
   symmetric-by : (e : Encounter V) → asymmetry_at m r c e ≡ None → symmetric m r c e ≡ true
   symmetric-by e h = cond_both (symmetric m r c e) None (Some (shown_asymmetry e)) (λ o. o ≡ None → symmetric m r c e ≡ true) (λ t _. t) (λ _ k. none-some (shown_asymmetry e) (sym k)) h
 
-  every-barred : (es : List (Encounter V)) → every_barred m r c es ≡ true → All (Barred m r c) es
+  every-barred : (es : List (Encounter V)) → every_barred m r c es ≡ true → AllByRecursion (Barred m r c) es
   every-barred [] h = tt
   every-barred (e ∷ es) h = let b = and_parts (is_barred r (out e)) (every_barred m r c es) h in (barred-is r (out e) b.0, every-barred es b.1)
 
-  some-unbarred : (es : List (Encounter V)) → All (InRange m c) es → every_barred m r c es ≡ false → SomeInRange m r c (Unbarred m r c)
+  some-unbarred : (es : List (Encounter V)) → AllByRecursion (InRange m c) es → every_barred m r c es ≡ false → SomeInRange m r c (Unbarred m r c)
   some-unbarred [] a h = absurd (true≢false h)
   some-unbarred (e ∷ es) a h = elim (and_cases (is_barred r (out e)) (every_barred m r c es) h) [ inl f ↦ (e, (a.0, f)) | inr f ↦ some-unbarred es a.1 f ]
 
@@ -96,11 +96,11 @@ module _ {V C R : Type 0} (m : Meaning V C) (law : Lawful m) (r : Results R) (eq
     abbrev es : List (Encounter V)
     es = from_starts m c lent
 
-    all_in : All (InRange m c) es
+    all_in : AllByRecursion (InRange m c) es
     all_in = (made-of-starts m law r c ok lent s.lengths).1
 
     -- what holds of all that are made of starts, by their outcomes, holds of all in range
-    carried : (P : Outcome R → Outcome R → Type 0) → All (λ s. P (out s) (back s)) es → EachInRange m r c (λ e. P (out e) (back e))
+    carried : (P : Outcome R → Outcome R → Type 0) → AllByRecursion (λ s. P (out s) (back s)) es → EachInRange m r c (λ e. P (out e) (back e))
     carried P a e h =
         let t = all_any (λ s. P (out s) (back s)) (λ s. (out s ≡ out e) × (back s ≡ back e)) es a (bridge m law r c ok e lent h s.lengths) in
         subst (λ o. P o (back e)) t.1.1.0 (subst (P (out t.0)) t.1.1.1 t.1.0)

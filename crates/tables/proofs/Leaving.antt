@@ -1,6 +1,6 @@
 -- What the encounter lists hold after issue. Assumes nothing.
 use Rattle.std.proofs.Common.{◌≡◌, true, refl, subst}
-use Rattle.std.specs.List.{AllByRecursion as All}
+use Rattle.std.specs.List.{AllByRecursion}
 use Rattle.kinds.specs.Meaning.{Meaning, Lawful}
 use Rattle.results.specs.Results.{Results}
 use Rattle.tables.specs.Contents.{Contents, Encounter, places, value_at, whole}
@@ -16,7 +16,7 @@ use Rattle.tables.proofs.Searching.{one_by_one}
 module _ {V C R : Type 0} (m : Meaning V C) (law : Lawful m) (r : Results R) (c : Contents V C R) (ok : Acceptable m r c) (lent : Encounter V) where
   shown-keeps : (P : Encounter V → Type 0) (e : Encounter V) → whole lent ≡ true → Earliest m r c lent P e → Unneeded m r c lent e
   shown-keeps P e w x =
-      let at : (S : Encounter V → Type 0) → All S (from_starts m c lent) → S x.cut.here = λ S a. cut-here (λ s. P s → ⊥) P S (from_starts m c lent) a x.cut in
+      let at : (S : Encounter V → Type 0) → AllByRecursion S (from_starts m c lent) → S x.cut.here = λ S a. cut-here (λ s. P s → ⊥) P S (from_starts m c lent) a x.cut in
       subst (Unneeded m r c lent) x.shown (record {
         lengths = at (λ s. whole s ≡ true) (choices-whole m c (places c) lent w);
         kept = λ t j n. at (λ s. value_at s t j ≡ value_at lent t j) (choices-keep m c t j (places c) (untouched t j (places c) n) lent);

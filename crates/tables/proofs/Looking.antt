@@ -1,6 +1,6 @@
 -- What look-up answers is so. Assumes nothing.
 use Rattle.std.proofs.Common.{◌≡◌, ℕ, suc, true, List, [], ◌∷◌, map, Some, None, unwrap_or, sym, refl, ap, ◌∙◌, subst, inl, inr, zero-add, arith}
-use Rattle.std.specs.List.{slice_get, AllByRecursion as All}
+use Rattle.std.specs.List.{slice_get, AllByRecursion}
 use Rattle.std.proofs.ByRecursion.{All-append, All-map, All-weaker}
 use Rattle.std.proofs.lemmas.Bool.{cond_both, cond-true}
 use Rattle.std.proofs.lemmas.Bool.Decides.{nat_tests}
@@ -21,11 +21,11 @@ use Rattle.tables.proofs.Fitting.{outcome_fits}
 
 module _ {V C R : Type 0} (m : Meaning V C) (r : Results R) (c : Contents V C R) where
   -- the exchanged encounter is in range too
-  exchange-sides : (e : Encounter V) (k : Scope) (i : ℕ) (q : Quantity V) → All (λ s. place_in_range m e (place i q s)) (sides k) → All (λ s. place_in_range m (exchange c e) (place i q s)) (sides k)
+  exchange-sides : (e : Encounter V) (k : Scope) (i : ℕ) (q : Quantity V) → AllByRecursion (λ s. place_in_range m e (place i q s)) (sides k) → AllByRecursion (λ s. place_in_range m (exchange c e) (place i q s)) (sides k)
   exchange-sides e Flight i q h = (h.1.0, (h.0, tt))
   exchange-sides e Pair i q h = h
 
-  exchange-from : (e : Encounter V) (i : ℕ) (qs : List (Quantity V)) → All (place_in_range m e) (places_from i qs) → All (place_in_range m (exchange c e)) (places_from i qs)
+  exchange-from : (e : Encounter V) (i : ℕ) (qs : List (Quantity V)) → AllByRecursion (place_in_range m e) (places_from i qs) → AllByRecursion (place_in_range m (exchange c e)) (places_from i qs)
   exchange-from e i [] h = tt
   exchange-from e i (q ∷ qs) h =
       let t = all_split (place_in_range m e) (map (place i q) (sides q.scope)) (places_from (suc i) qs) h in
@@ -49,7 +49,7 @@ module _ {V C R : Type 0} (m : Meaning V C) (r : Results R) (c : Contents V C R)
   out-by : (e : Encounter V) (p : Place V) (y : Look R) → outside_at m r c e p ≡ Some y → Outside m r c e p × (shown p ≡ y)
   out-by e p y h = cond_both (within m p.quantity (value_of e p)) None (Some (shown p)) (λ o. o ≡ Some y → Outside m r c e p × (shown p ≡ y)) (λ _ k. none-some y k) (λ f k. (f, some_same (shown p) y k)) h
 
-  none-outside : (e : Encounter V) (ps : List (Place V)) → All (place_in_range m e) ps → first (outside_at m r c e) ps ≡ None
+  none-outside : (e : Encounter V) (ps : List (Place V)) → AllByRecursion (place_in_range m e) ps → first (outside_at m r c e) ps ≡ None
   none-outside e [] h = refl
   none-outside e (p ∷ ps) h = subst (λ o. or_else o (first (outside_at m r c e) ps) ≡ None) (sym (cond-true (within m p.quantity (value_of e p)) None (Some (shown p)) h.0)) (none-outside e ps h.1)
 

@@ -1,6 +1,6 @@
 -- The encounters made of starts lie in range, and are as many as the count. Assumes nothing.
 use Rattle.std.proofs.Common.{◌≡◌, ℕ, suc, ◌+◌, ◌-◌, ◌*◌, true, leb, List, [], ◌∷◌, ◌++◌, map, length, Some, sym, refl, ap, ◌∙◌, mul_assoc, suc-mul, add_comm, zero-mul, arith, length-append}
-use Rattle.std.specs.List.{AllByRecursion as All}
+use Rattle.std.specs.List.{AllByRecursion}
 use Rattle.std.proofs.ByRecursion.{All-weaker}
 use Rattle.std.proofs.lemmas.Bool.{and_from, le-leb}
 use Rattle.kinds.specs.Meaning.{Meaning, Lawful}
@@ -32,14 +32,14 @@ module _ {V C R : Type 0} (m : Meaning V C) (law : Lawful m) (r : Results R) (c 
   choices-count [] e = refl
   choices-count (p ∷ ps) e = length-each (λ v. choices m c ps (put_at p v e)) (product (map (λ p. length (starts_at m c p)) ps)) (λ v. choices-count ps (put_at p v e)) (starts_at m c p)
 
-  choices-in : (ps : List (Place V)) → Separate ps → All (Placed m law r c ok) ps → (lent : Encounter V) → whole lent ≡ true → All (λ s. All (place_in_range m s) ps) (choices m c ps lent)
+  choices-in : (ps : List (Place V)) → Separate ps → AllByRecursion (Placed m law r c ok) ps → (lent : Encounter V) → whole lent ≡ true → AllByRecursion (λ s. AllByRecursion (place_in_range m s) ps) (choices m c ps lent)
   choices-in [] d n lent w = (tt, tt)
   choices-in (p ∷ ps) d n lent w =
       let q = p.quantity in
       let ordered = law.ordered q.least q.greatest (all-nth (λ q. m.range q.least q.greatest ≡ true) c.quantities p.number q ok.quantities.1 n.0) in
-      all-each (λ s. All (place_in_range m s) (p ∷ ps)) (λ v. choices m c ps (put_at p v lent)) (starts_at m c p)
-      (All-weaker (In m law q.least q.greatest) (λ v. All (λ s. All (place_in_range m s) (p ∷ ps)) (choices m c ps (put_at p v lent)))
-      (λ v i. all_both (λ s. value_of s p ≡ Some v) (λ s. All (place_in_range m s) ps) (λ s. All (place_in_range m s) (p ∷ ps))
+      all-each (λ s. AllByRecursion (place_in_range m s) (p ∷ ps)) (λ v. choices m c ps (put_at p v lent)) (starts_at m c p)
+      (All-weaker (In m law q.least q.greatest) (λ v. AllByRecursion (λ s. AllByRecursion (place_in_range m s) (p ∷ ps)) (choices m c ps (put_at p v lent)))
+      (λ v i. all_both (λ s. value_of s p ≡ Some v) (λ s. AllByRecursion (place_in_range m s) ps) (λ s. AllByRecursion (place_in_range m s) (p ∷ ps))
       (λ s k g. (ap (within m q) k ∙ and_from (leb (m.rank q.least) (m.rank v)) (leb (m.rank v) (m.rank q.greatest)) (le-leb (m.rank q.least) (m.rank v) i.0) (le-leb (m.rank v) (m.rank q.greatest) i.1), g))
       (choices m c ps (put_at p v lent)) (chosen_at m law r c ok p ps d.0 n.0 lent w v) (choices-in ps d.1 n.1 (put_at p v lent) (put_whole p.side p.number v lent w)))
       (starts_at m c p) (starts-within m law q.least q.greatest (cells_of c p.number) (suc (m.rank q.greatest - m.rank q.least)) q.least (omega arith) ordered))

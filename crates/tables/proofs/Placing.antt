@@ -1,6 +1,6 @@
 -- The places of a sheet: each has its quantity, and no two are one. Assumes nothing.
 use Rattle.std.proofs.Common.{◌≡◌, ℕ, zero, suc, ◌+◌, ◌<◌, true, List, [], ◌∷◌, ◌++◌, map, length, Some, sym, refl, ap, ◌∙◌, subst, arith, length-set}
-use Rattle.std.specs.List.{slice_get, AllByRecursion as All}
+use Rattle.std.specs.List.{slice_get, AllByRecursion}
 use Rattle.std.proofs.ByRecursion.{All-append, All-map, All-weaker}
 use Rattle.std.proofs.lemmas.List.{set_comm, set-set}
 use Rattle.std.proofs.lemmas.Bool.Decides.{nat_tests}
@@ -17,7 +17,7 @@ module _ {V : Type 0} where
   place i q s = record { side = s; number = i; quantity = q }
 
   -- each place has its quantity by number
-  pub placed : (all qs : List (Quantity V)) (k : ℕ) → ((i : ℕ) → slice_get all (k + i) ≡ slice_get qs i) → All (λ p. slice_get all p.number ≡ Some p.quantity) (places_from k qs)
+  pub placed : (all qs : List (Quantity V)) (k : ℕ) → ((i : ℕ) → slice_get all (k + i) ≡ slice_get qs i) → AllByRecursion (λ p. slice_get all p.number ≡ Some p.quantity) (places_from k qs)
   placed all [] k h = tt
   placed all (q ∷ qs) k h =
       let here : k ≡ k + 0 = omega arith in
@@ -27,12 +27,12 @@ module _ {V : Type 0} where
       (placed all qs (suc k) (λ i. ap (slice_get all) (on i) ∙ h (suc i)))
 
   -- what holds of each place holds of each side of quantity j
-  pub sides-at : (P : Place V → Type 0) (k : ℕ) (qs : List (Quantity V)) (i j : ℕ) (q : Quantity V) → k + i ≡ j → slice_get qs i ≡ Some q → All P (places_from k qs) → All (λ s. P (place j q s)) (sides q.scope)
+  pub sides-at : (P : Place V → Type 0) (k : ℕ) (qs : List (Quantity V)) (i j : ℕ) (q : Quantity V) → k + i ≡ j → slice_get qs i ≡ Some q → AllByRecursion P (places_from k qs) → AllByRecursion (λ s. P (place j q s)) (sides q.scope)
   sides-at P k [] i j q n e h = none-some q e
   sides-at P k (x ∷ qs) zero j q n e h =
       let here : k ≡ j = omega arith in
-      subst (λ y. All (λ s. P (place j y s)) (sides y.scope)) (some_same x q e)
-      (subst (λ y. All (λ s. P (place y x s)) (sides x.scope)) here (map-all P (place k x) (sides x.scope) (all_split P (map (place k x) (sides x.scope)) (places_from (suc k) qs) h).0))
+      subst (λ y. AllByRecursion (λ s. P (place j y s)) (sides y.scope)) (some_same x q e)
+      (subst (λ y. AllByRecursion (λ s. P (place y x s)) (sides x.scope)) here (map-all P (place k x) (sides x.scope) (all_split P (map (place k x) (sides x.scope)) (places_from (suc k) qs) h).0))
   sides-at P k (x ∷ qs) (suc i) j q n e h = sides-at P (suc k) qs i j q (omega arith) e (all_split P (map (place k x) (sides x.scope)) (places_from (suc k) qs) h).1
 
   -- a value put at t leaves that at p, and the order of putting does not matter
@@ -41,7 +41,7 @@ module _ {V : Type 0} where
 
   abbrev pub Separate : List (Place V) → Type 0
   Separate [] = Unit {0}
-  Separate (p ∷ ps) = All (Apart p) ps × Separate ps
+  Separate (p ∷ ps) = AllByRecursion (Apart p) ps × Separate ps
 
   -- a value put elsewhere leaves that of side t at j
   pub put_other : (s t : Side) (i j : ℕ) (v : V) (e : Encounter V) → ((s ≡ t) × (i ≡ j) → ⊥) → value_at (put s i v e) t j ≡ value_at e t j
@@ -71,14 +71,14 @@ module _ {V : Type 0} where
   put-put OfB i v w e = ap (λ l. record { a = e.a; b = l; pair = e.pair }) (set-set e.b i w v)
   put-put OfPair i v w e = ap (λ l. record { a = e.a; b = e.b; pair = l }) (set-set e.pair i w v)
 
-  beyond : (i k : ℕ) (qs : List (Quantity V)) → i < k → All (λ p. i ≡ p.number → ⊥) (places_from k qs)
+  beyond : (i k : ℕ) (qs : List (Quantity V)) → i < k → AllByRecursion (λ p. i ≡ p.number → ⊥) (places_from k qs)
   beyond i k [] h = tt
   beyond i k (q ∷ qs) h =
       All-append (λ p. i ≡ p.number → ⊥) (map (place k q) (sides q.scope)) (places_from (suc k) qs)
       (All-map (λ p. i ≡ p.number → ⊥) (place k q) (sides q.scope) (all-given (λ s. i ≡ k → ⊥) (λ s e. omega arith) (sides q.scope)))
       (beyond i (suc k) qs (omega arith))
 
-  separate-sides : (c : Scope) (k : ℕ) (q : Quantity V) (ps : List (Place V)) → ((s : Side) → All (Apart (place k q s)) ps) → Separate ps → Separate (map (place k q) (sides c) ++ ps)
+  separate-sides : (c : Scope) (k : ℕ) (q : Quantity V) (ps : List (Place V)) → ((s : Side) → AllByRecursion (Apart (place k q s)) ps) → Separate ps → Separate (map (place k q) (sides c) ++ ps)
   separate-sides Flight k q ps h t = ((((λ v e. refl), λ v w e. refl), h OfA), (h OfB, t))
   separate-sides Pair k q ps h t = (h OfPair, t)
 

@@ -1,6 +1,6 @@
 -- The draft calls can make every acceptable contents. Assumes nothing.
 use Rattle.std.proofs.Common.{◌≡◌, ℕ, zero, suc, ◌+◌, ◌-◌, ◌<◌, ◌≤◌, Bool, true, false, ltb, List, [], ◌∷◌, ◌++◌, length, set, Some, None, Option, sym, refl, ap, ◌∙◌, subst, ap₂, append_assoc, append-nil, arith, length-append}
-use Rattle.std.specs.List.{slice_get, AllByRecursion as All}
+use Rattle.std.specs.List.{slice_get, AllByRecursion}
 use Rattle.std.proofs.lemmas.Bool.{cond-true, cond-false, lt-ltb, le-ltb, and_from, false≢true}
 use Rattle.kinds.specs.Meaning.{Meaning}
 use Rattle.faults.specs.declared.SheetFault.{SheetFault}
@@ -16,7 +16,7 @@ use Rattle.tables.specs.Calls.{Edit, name_quantity, add_row, add_column, add_nev
 use Rattle.tables.specs.Edits.{draft_of}
 use Rattle.tables.specs.Promises.{Makeable}
 
-pub no-no : (qs : List (Bool × SheetFault)) → All (λ q. q.0 ≡ true) qs → first_no qs ≡ None
+pub no-no : (qs : List (Bool × SheetFault)) → AllByRecursion (λ q. q.0 ≡ true) qs → first_no qs ≡ None
 no-no [] a = refl
 no-no (q ∷ qs) a = cond-true q.0 (first_no qs) (Some q.1) a.0 ∙ no-no qs a.1
 
@@ -44,12 +44,12 @@ module _ {V C R : Type 0} (m : Meaning V C) (r : Results R) where
   reach-then : (c d e : Contents V C R) → Reach c d → Reach d e → Reach c e
   reach-then c d e x y = (x.0 ++ y.0, run-both (draft_of c) x.0 y.0 ∙ ap (λ s. run m r s y.0) x.1 ∙ y.1)
 
-  by-edit : (c d : Contents V C R) (k : Edit V C R) → All (λ q. q.0 ≡ true) (asked m r k c) → edited k c ≡ d → Reach c d
+  by-edit : (c d : Contents V C R) (k : Edit V C R) → AllByRecursion (λ q. q.0 ≡ true) (asked m r k c) → edited k c ≡ d → Reach c d
   by-edit c d k a e = (edit k ∷ [], ap (λ o. draft_of (unless_refused m r o (edited k c) c)) (no-no (asked m r k c) a) ∙ ap draft_of e)
 
   -- one after the other, up to n
   add-all : {X : Type 0} (P : X → Type 0) (n : ℕ) (f : List X → Contents V C R) → ((xs : List X) (x : X) → length xs < n → P x → Reach (f xs) (f (xs ++ (x ∷ []))))
-      → (xs rest : List X) → length xs + length rest ≤ n → All P rest → Reach (f xs) (f (xs ++ rest))
+      → (xs rest : List X) → length xs + length rest ≤ n → AllByRecursion P rest → Reach (f xs) (f (xs ++ rest))
   add-all P n f step xs [] l a = ([], ap (λ l. draft_of (f l)) (sym (append-nil xs)))
   add-all P n f step xs (x ∷ rest) l a =
       reach-then (f xs) (f (xs ++ (x ∷ []))) (f (xs ++ (x ∷ rest))) (step xs x (omega arith) a.0)
@@ -58,7 +58,7 @@ module _ {V C R : Type 0} (m : Meaning V C) (r : Results R) where
   abbrev holding : List (Quantity V) → List Row → List (Column C R) → List (List (Entry C)) → Option R → Contents V C R
   holding qs ws ks ns d = record { quantities = qs; rows = ws; columns = ks; nevers = ns; default = d }
 
-  name-all : (qs : List (Quantity V)) → length qs ≤ 16 → All (λ q. range_lawful m q ≡ true) qs → Reach empty (holding qs [] [] [] None)
+  name-all : (qs : List (Quantity V)) → length qs ≤ 16 → AllByRecursion (λ q. range_lawful m q ≡ true) qs → Reach empty (holding qs [] [] [] None)
   name-all qs l a =
       add-all (λ q. range_lawful m q ≡ true) 16 (λ qs. holding qs [] [] [] None)
       (λ xs q l y. by-edit (holding xs [] [] [] None) (holding (xs ++ (q ∷ [])) [] [] [] None) (name_quantity q) (lt-ltb (length xs) 16 l, (y, tt)) refl) [] qs (omega arith) a
@@ -69,7 +69,7 @@ module _ {V C R : Type 0} (m : Meaning V C) (r : Results R) where
     exists (x ∷ xs) w zero h = omega arith
     exists (x ∷ xs) w (suc i) h = let k = exists xs w i h in omega arith
 
-    row-all : (ws : List Row) → length ws ≤ 16 → All (λ w. row_lawful m qs w ≡ true) ws → Reach (holding qs [] [] [] None) (holding qs ws [] [] None)
+    row-all : (ws : List Row) → length ws ≤ 16 → AllByRecursion (λ w. row_lawful m qs w ≡ true) ws → Reach (holding qs [] [] [] None) (holding qs ws [] [] None)
     row-all ws l a =
         add-all (λ w. row_lawful m qs w ≡ true) 16 (λ ws. holding qs ws [] [] None)
         (λ xs w l y. by-edit (holding qs xs [] [] None) (holding qs (xs ++ (w ∷ [])) [] [] None) (add_row w)

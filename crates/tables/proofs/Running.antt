@@ -1,6 +1,6 @@
 -- Every run of calls makes a sheet that the draft calls accept, and an issued one is without fault. Assumes nothing.
 use Rattle.std.proofs.Common.{◌≡◌, ℕ, zero, suc, ◌-◌, ◌≤◌, Bool, true, false, cond, ltb, List, [], ◌∷◌, ◌++◌, map, length, take, set, Some, None, Option, sym, refl, ◌∙◌, subst, arith, length-append, length-take}
-use Rattle.std.specs.List.{slice_get, AllByRecursion as All}
+use Rattle.std.specs.List.{slice_get, AllByRecursion}
 use Rattle.std.proofs.ByRecursion.{All-push, All-map, All-weaker, All-take}
 use Rattle.std.proofs.lemmas.List.{length-map}
 use Rattle.std.proofs.lemmas.Bool.{cond_both, ltb-true, false≢true, true≢false}
@@ -44,7 +44,7 @@ module _ {X : Type 0} (n : ℕ) (P : X → Type 0) where
   up-to-changed : (f : X → X) → ((x : X) → P x → P (f x)) → (i : ℕ) (xs : List X) → UpTo n P xs → UpTo n P (changed i f xs)
   up-to-changed f g i xs h = (subst (λ k. k ≤ n) (sym (changed-length i f xs)) h.0, all i xs h.1)
     where
-      all : (i : ℕ) (xs : List X) → All P xs → All P (changed i f xs)
+      all : (i : ℕ) (xs : List X) → AllByRecursion P xs → AllByRecursion P (changed i f xs)
       all i [] h = tt
       all zero (x ∷ xs) h = (g x h.0, h.1)
       all (suc i) (x ∷ xs) h = (h.0, all i xs h.1)
@@ -84,7 +84,7 @@ module _ {V C R : Type 0} (m : Meaning V C) (r : Results R) where
   abbrev ColumnLawful : List (Quantity V) → List Row → Column C R → Type 0
   ColumnLawful qs ws k = EntriesLawful m qs ws k.entries × (r.lawful k.result ≡ true)
 
-  pub edited-acceptable : (k : Edit V C R) (c : Contents V C R) → All (λ q. q.0 ≡ true) (asked m r k c) → Acceptable m r c → Acceptable m r (edited k c)
+  pub edited-acceptable : (k : Edit V C R) (c : Contents V C R) → AllByRecursion (λ q. q.0 ≡ true) (asked m r k c) → Acceptable m r c → Acceptable m r (edited k c)
   edited-acceptable (name_quantity q) c y ok = record {
     quantities = up-to-push 16 (λ q. m.range q.least q.greatest ≡ true) c.quantities q y.0 y.1.0 ok.quantities;
     rows = up-to-weaker 16 (λ w. row_lawful m c.quantities w ≡ true) (λ w. row_lawful m (c.quantities ++ (q ∷ [])) w ≡ true) (λ w h. kept (mode_lawful m w.mode) refl c.quantities (q ∷ []) w.quantity h) c.rows ok.rows;

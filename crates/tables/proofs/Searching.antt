@@ -1,7 +1,7 @@
 -- The search one by one goes through the encounters made of starts in order. Assumes nothing.
 use Rattle.std.proofs.Common.{◌≡◌, ◌<◌, Bool, true, false, cond, List, [], ◌∷◌, ◌++◌, is_some, Some, None, Option, unwrap_or, sym, refl, ap, ◌∙◌, ap₂, arith}
 use Rattle.std.specs.Option.{option_map}
-use Rattle.std.specs.List.{AllByRecursion as All}
+use Rattle.std.specs.List.{AllByRecursion}
 use Rattle.kinds.specs.Meaning.{Meaning, Lawful}
 use Rattle.tables.specs.Words.{each, or_else}
 use Rattle.results.specs.Results.{Results}
@@ -16,15 +16,15 @@ use Rattle.tables.proofs.Keeping.{apart-untouched, reset-keep}
 use Rattle.tables.proofs.Bridging.{Placed, all_placed}
 
 module _ {V C R : Type 0} (m : Meaning V C) (law : Lawful m) (r : Results R) (c : Contents V C R) (ok : Acceptable m r c) where
-  reset-at : (p : Place V) (ps : List (Place V)) → All (Apart p) ps → (e : Encounter V) → value_of (reset m c ps e) p ≡ value_of e p
+  reset-at : (p : Place V) (ps : List (Place V)) → AllByRecursion (Apart p) ps → (e : Encounter V) → value_of (reset m c ps e) p ≡ value_of e p
   reset-at p ps a e = reset-keep m c p.side p.number ps (apart-untouched p ps a) e
 
-  reset-put : (p : Place V) (ps : List (Place V)) → All (Apart p) ps → (v : V) (e : Encounter V) → put_at p v (reset m c ps e) ≡ reset m c ps (put_at p v e)
+  reset-put : (p : Place V) (ps : List (Place V)) → AllByRecursion (Apart p) ps → (v : V) (e : Encounter V) → put_at p v (reset m c ps e) ≡ reset m c ps (put_at p v e)
   reset-put p [] a v e = refl
   reset-put p (t ∷ ps) a v e = reset-put p ps a.1 v (put_at t t.quantity.least e) ∙ ap (reset m c ps) (a.0.1 v t.quantity.least e)
 
   -- v put at p, whatever was put there before
-  put-reset : (p : Place V) (ps : List (Place V)) → All (Apart p) ps → (v w : V) (e : Encounter V) → put_at p v (reset m c ps (put_at p w e)) ≡ reset m c ps (put_at p v e)
+  put-reset : (p : Place V) (ps : List (Place V)) → AllByRecursion (Apart p) ps → (v w : V) (e : Encounter V) → put_at p v (reset m c ps (put_at p w e)) ≡ reset m c ps (put_at p v e)
   put-reset p ps a v w e = reset-put p ps a v (put_at p w e) ∙ ap (reset m c ps) (put-put p.side p.number v w e)
 
   pub reset-reset : (ps : List (Place V)) → Separate ps → (e : Encounter V) → reset m c ps (reset m c ps e) ≡ reset m c ps e
@@ -56,7 +56,7 @@ module _ {V C R : Type 0} (m : Meaning V C) (law : Lawful m) (r : Results R) (c 
       (each_same (λ v. choices m c ps (put_at p v s)) f (λ v. ap (choices m c ps) (put-reset p ps d.0 v w e) ∙ choices-reset ps d.1 (put_at p v e)) (later p (value_of s p)) ∙ ap (λ o. each (later p o) f) here)
       ∙ sym (ap (λ vs. each vs f) (starts-on m law (cells_of c p.number) p.quantity.greatest w))
 
-  remaining-reset : (ps : List (Place V)) → Separate ps → All (Placed m law r c ok) ps → (e : Encounter V) → whole e ≡ true → remaining m c ps (reset m c ps e) ≡ choices m c ps e
+  remaining-reset : (ps : List (Place V)) → Separate ps → AllByRecursion (Placed m law r c ok) ps → (e : Encounter V) → whole e ≡ true → remaining m c ps (reset m c ps e) ≡ choices m c ps e
   remaining-reset [] d n e l = refl
   remaining-reset (p ∷ ps) d n e l =
       let w = p.quantity.least in
@@ -77,7 +77,7 @@ module _ {V C R : Type 0} (m : Meaning V C) (law : Lawful m) (r : Results R) (c 
   advance-reset [] d e s k = none-some s k
   advance-reset (p ∷ ps) d e s k = advance-by p ps d e s (advance m c ps e) (λ x. advance-reset ps d.1 e x) (next_at m c p (value_of e p)) k
 
-  step_by : (p : Place V) (ps : List (Place V)) → Separate (p ∷ ps) → All (Placed m law r c ok) (p ∷ ps) → (e : Encounter V) → whole e ≡ true → (o : Option (Encounter V)) → advance m c ps e ≡ o → remaining m c ps e ≡ e ∷ onward (remaining m c ps) o
+  step_by : (p : Place V) (ps : List (Place V)) → Separate (p ∷ ps) → AllByRecursion (Placed m law r c ok) (p ∷ ps) → (e : Encounter V) → whole e ≡ true → (o : Option (Encounter V)) → advance m c ps e ≡ o → remaining m c ps e ≡ e ∷ onward (remaining m c ps) o
       → (u : Option V) → next_at m c p (value_of e p) ≡ u → remaining m c (p ∷ ps) e ≡ e ∷ onward (remaining m c (p ∷ ps)) (or_else o (option_map (λ v. reset m c ps (put_at p v e)) u))
   step_by p ps d n e l (Some s) k ih u q =
       let h = advance-reset ps d.1 e s k in
@@ -90,14 +90,14 @@ module _ {V C R : Type 0} (m : Meaning V C) (law : Lawful m) (r : Results R) (c 
       ap₂ ◌++◌ ih (ap (λ u. each (onward (starts_on m (cells_of c p.number) p.quantity.greatest) u) (λ v. choices m c ps (put_at p v e))) q)
       ∙ ap (λ xs. e ∷ xs) (sym (remaining-at p ps d n.0 w e l (remaining-reset ps d.1 n.1 (put_at p w e) (put_whole p.side p.number w e l))))
 
-  step : (ps : List (Place V)) → Separate ps → All (Placed m law r c ok) ps → (e : Encounter V) → whole e ≡ true → remaining m c ps e ≡ e ∷ onward (remaining m c ps) (advance m c ps e)
+  step : (ps : List (Place V)) → Separate ps → AllByRecursion (Placed m law r c ok) ps → (e : Encounter V) → whole e ≡ true → remaining m c ps e ≡ e ∷ onward (remaining m c ps) (advance m c ps e)
   step [] d n e l = refl
   step (p ∷ ps) d n e l = step_by p ps d n e l (advance m c ps e) refl (step ps d.1 n.1 e l) (next_at m c p (value_of e p)) refl
 
   abbrev Turned : List (Place V) → Encounter V → Option (Encounter V) → Bool × Encounter V
   Turned ps e o = (is_some o, unwrap_or o (reset m c ps e))
 
-  turned_by : (p : Place V) (ps : List (Place V)) → All (Apart p) ps → (e : Encounter V) (o : Option (Encounter V)) (u : Option V) → next_at m c p (value_of e p) ≡ u
+  turned_by : (p : Place V) (ps : List (Place V)) → AllByRecursion (Apart p) ps → (e : Encounter V) (o : Option (Encounter V)) (u : Option V) → next_at m c p (value_of e p) ≡ u
       → cond (is_some o) (Turned ps e o) (turned_at m c p (Turned ps e o) (next_at m c p (value_of (unwrap_or o (reset m c ps e)) p))) ≡ Turned (p ∷ ps) e (or_else o (option_map (λ v. reset m c ps (put_at p v e)) u))
   turned_by p ps a e (Some s) u q = refl
   turned_by p ps a e None u q =
@@ -113,7 +113,7 @@ module _ {V C R : Type 0} (m : Meaning V C) (law : Lawful m) (r : Results R) (c 
       ap (λ s. cond s.0 s (turned_at m c p s (next_at m c p (value_of s.1 p)))) (turned-is ps d.1 e)
       ∙ turned_by p ps d.0 e (advance m c ps e) (next_at m c p (value_of e p)) refl
 
-  reset-least : (ps : List (Place V)) → Separate ps → All (Placed m law r c ok) ps → (e : Encounter V) → whole e ≡ true → All (λ p. value_of (reset m c ps e) p ≡ Some p.quantity.least) ps
+  reset-least : (ps : List (Place V)) → Separate ps → AllByRecursion (Placed m law r c ok) ps → (e : Encounter V) → whole e ≡ true → AllByRecursion (λ p. value_of (reset m c ps e) p ≡ Some p.quantity.least) ps
   reset-least [] d n e l = tt
   reset-least (p ∷ ps) d n e l =
       let w = p.quantity.least in

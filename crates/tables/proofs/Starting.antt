@@ -1,6 +1,6 @@
 -- What the starts are, in the words of the stops. Assumes nothing.
 use Rattle.std.proofs.Common.{◌≡◌, ◌<◌, ◌≤◌, leb, ◌⊎◌, List, [], ◌∷◌, Some, None, Option, sym, refl, ap, ◌∙◌, subst, inl, inr, arith}
-use Rattle.std.specs.List.{AllByRecursion as All}
+use Rattle.std.specs.List.{AllByRecursion}
 use Rattle.std.proofs.ByRecursion.{All-weaker}
 use Rattle.std.proofs.lemmas.Bool.{cond_both, cond-true, cond-false, cases_Bool, leb-true, leb-false}
 use Rattle.kinds.specs.Meaning.{Meaning, Lawful, earlier}
@@ -16,7 +16,7 @@ module _ {V C : Type 0} (m : Meaning V C) (law : Lawful m) where
 
   -- o is the earliest stop of the cells after v, if any has one
   abbrev IsEarliest : List C → V → Option V → Type 0
-  IsEarliest xs v o = ((s : V) × ((o ≡ Some s) × (Any (λ x. m.stop x v ≡ Some s) xs × All (NotBefore v s) xs))) ⊎ ((o ≡ None) × All (λ x. m.stop x v ≡ None) xs)
+  IsEarliest xs v o = ((s : V) × ((o ≡ Some s) × (Any (λ x. m.stop x v ≡ Some s) xs × AllByRecursion (NotBefore v s) xs))) ⊎ ((o ≡ None) × AllByRecursion (λ x. m.stop x v ≡ None) xs)
 
   absent : (v s : V) (x : C) → m.stop x v ≡ None → NotBefore v s x
   absent v s x n t k = none-some t (sym n ∙ k)
@@ -33,7 +33,7 @@ module _ {V C : Type 0} (m : Meaning V C) (law : Lawful m) where
   add x xs v (Some y) (Some s) q (inl t) =
       let e : s ≡ t.0 = some_same s t.0 t.1.0 in
       let some : Any (λ x. m.stop x v ≡ Some s) xs = subst (λ s. Any (λ x. m.stop x v ≡ Some s) xs) (sym e) t.1.1.0 in
-      let all : All (NotBefore v s) xs = subst (λ s. All (NotBefore v s) xs) (sym e) t.1.1.1 in
+      let all : AllByRecursion (NotBefore v s) xs = subst (λ s. AllByRecursion (NotBefore v s) xs) (sym e) t.1.1.1 in
       cond_both (leb (m.rank y) (m.rank s)) (Some y) (Some s) (IsEarliest (x ∷ xs) v)
       (λ l. let le = leb-true (m.rank y) (m.rank s) l in
       inl (y, (refl, (inl q, (present v y y x q (omega arith), All-weaker (NotBefore v s) (NotBefore v y) (λ x h t k. omega (arith, le, h t k)) xs all)))))

@@ -1,6 +1,6 @@
 -- Each edit does to the contents, through counts and lists, what it is said to do. Assumes nothing.
 use Rattle.std.proofs.Common.{◌≡◌, ℕ, zero, suc, ◌+◌, ◌-◌, ◌*◌, ◌<◌, ◌≤◌, Bool, true, cond, ltb, List, [], ◌∷◌, ◌++◌, map, length, get_or, take, set, Some, None, Option, sym, refl, ap, ◌∙◌, subst, ap₂, inl, inr, arith, length-set, length-take}
-use Rattle.std.specs.List.{range_with_len, AllByRecursion as All}
+use Rattle.std.specs.List.{range_with_len, AllByRecursion}
 use Rattle.std.proofs.lemmas.List.FromFn.{map-range_with_len_more, take-map-range_with_len, length-map-range_with_len}
 use Rattle.std.proofs.lemmas.List.{take_more_set, take-set-le, take-take, get_or-set_same, get_or-set_other}
 use Rattle.std.proofs.lemmas.Bool.{cond_both, cond-true, cond-false, and_parts, ltb-true, ltb-false, cases_eq}
@@ -17,16 +17,16 @@ use Rattle.tables.specs.Storage.{Lists, Bounded, RightLengths, column_of, column
 use Rattle.tables.specs.Promises.{StoredRightly, HeldRightly}
 use Rattle.tables.proofs.Lists.{none-some, nth-set-same, nth-set-other}
 
-pub no-refusal : (qs : List (Bool × SheetFault)) → first_no qs ≡ None → All (λ q. q.0 ≡ true) qs
+pub no-refusal : (qs : List (Bool × SheetFault)) → first_no qs ≡ None → AllByRecursion (λ q. q.0 ≡ true) qs
 no-refusal [] h = tt
-no-refusal (q ∷ qs) h = cond_both q.0 (first_no qs) (Some q.1) (λ o. o ≡ None → All (λ q. q.0 ≡ true) (q ∷ qs)) (λ t k. (t, no-refusal qs k)) (λ _ k. none-some q.1 (sym k)) h
+no-refusal (q ∷ qs) h = cond_both q.0 (first_no qs) (Some q.1) (λ o. o ≡ None → AllByRecursion (λ q. q.0 ≡ true) (q ∷ qs)) (λ t k. (t, no-refusal qs k)) (λ _ k. none-some q.1 (sym k)) h
 
 -- lists by the index
 map-counting-same : {X : Type 0} (f g : ℕ → X) (a n : ℕ) → ((i : ℕ) → a ≤ i → i < a + n → f i ≡ g i) → map f (range_with_len a n) ≡ map g (range_with_len a n)
 map-counting-same f g a zero h = refl
 map-counting-same f g a (suc n) h = ap₂ ◌∷◌ (h a (omega arith) (omega arith)) (map-counting-same f g (a + 1) n (λ i p q. h i (omega arith) (omega arith)))
 
-all-counting : (P : ℕ → Type 0) (g : ℕ → ℕ) (a n : ℕ) → ((i : ℕ) → a ≤ i → i < a + n → P (g i)) → All P (map g (range_with_len a n))
+all-counting : (P : ℕ → Type 0) (g : ℕ → ℕ) (a n : ℕ) → ((i : ℕ) → a ≤ i → i < a + n → P (g i)) → AllByRecursion P (map g (range_with_len a n))
 all-counting P g a zero h = tt
 all-counting P g a (suc n) h = (h a (omega arith) (omega arith), all-counting P g (a + 1) n (λ i p q. h i (omega arith) (omega arith)))
 
@@ -35,7 +35,7 @@ some-counting P g a zero i p q h = absurd (omega arith)
 some-counting P g a (suc n) i p q h = elim (cases_eq i a) [ inl e ↦ inl (subst (λ j. P (g j)) e h) | inr d ↦ let r : a + 1 ≤ i = omega arith in inr (some-counting P g (a + 1) n i r (omega arith) h) ]
 
 module _ {C : Type 0} where
-  wiped-out : (es : List (Entry C)) (ks : List ℕ) (p : ℕ) → All (λ k. p ≡ k → ⊥) ks → get_or (wiped es ks) p Any ≡ get_or es p Any
+  wiped-out : (es : List (Entry C)) (ks : List ℕ) (p : ℕ) → AllByRecursion (λ k. p ≡ k → ⊥) ks → get_or (wiped es ks) p Any ≡ get_or es p Any
   wiped-out es [] p h = refl
   wiped-out es (k ∷ ks) p h = wiped-out (set es k Any) ks p h.1 ∙ get_or-set_other es k p Any Any h.0
 
@@ -168,7 +168,7 @@ module _ {V C R : Type 0} (m : Meaning V C) (r : Results R) (n : Counts) (l : Li
   anys : (k : ℕ) → column_of (wiped es (column_places k)) n.rows k ≡ any_of (take n.rows l.rows)
   anys k = column-in es n.rows k b.rows ∙ ap (λ d. map (λ i. Any) (range_with_len 0 d)) (sym few-rows) ∙ any-counting 0 (take n.rows l.rows)
 
-  pub stored : (k : Edit V C R) → All (λ q. q.0 ≡ true) (asked m r k c) → StoredRightly k n l
+  pub stored : (k : Edit V C R) → AllByRecursion (λ q. q.0 ≡ true) (asked m r k c) → StoredRightly k n l
   stored (name_quantity q) y =
       let few : n.quantities < 16 = omega (arith, ltb-true (length (take n.quantities l.quantities)) 16 y.0, shorter n.quantities 16 l.quantities s.quantities b.quantities) in
       record {

@@ -1,7 +1,7 @@
 -- What the starts are, in which order the encounters made of them come, and how these stand for all encounters in range. Assumes nothing.
 use Rattle.std.specs.Prelude.{◌≡◌, ℕ, suc, ◌*◌, ◌<◌, ◌≤◌, true, ◌⊎◌, List, [], ◌∷◌, length, is_some, Some, Option}
 use Rattle.std.specs.Option.{unwrap_or}
-use Rattle.std.specs.List.{AllByRecursion as All}
+use Rattle.std.specs.List.{AllByRecursion}
 use Rattle.kinds.specs.Meaning.{Meaning}
 use Rattle.results.specs.Results.{Results}
 use Rattle.items.specs.declared.Scope.{Scope}
@@ -16,12 +16,12 @@ module _ {V C : Type 0} (m : Meaning V C) where
   -- s is up to z, and of the stops of the cells after v the earliest
   pub record EarliestStop (xs : List C) (z v s : V) : Type 0 where
     pub stops : Any (λ x. m.stop x v ≡ Some s) xs
-    pub earliest : All (λ x. (t : V) → m.stop x v ≡ Some t → m.rank s ≤ m.rank t) xs
+    pub earliest : AllByRecursion (λ x. (t : V) → m.stop x v ≡ Some t → m.rank s ≤ m.rank t) xs
     pub within : m.rank s ≤ m.rank z
 
   -- no cell has a stop after v that is up to z
   abbrev pub NoStop : List C → V → V → Type 0
-  NoStop xs z v = All (λ x. (t : V) → m.stop x v ≡ Some t → m.rank z < m.rank t) xs
+  NoStop xs z v = AllByRecursion (λ x. (t : V) → m.stop x v ≡ Some t → m.rank z < m.rank t) xs
 
   -- The starts from v up to z are v and then those from the earliest stop after v, or v alone where there is none.
   abbrev pub StartsGoOn : Type 0
@@ -57,7 +57,7 @@ module _ {V C R : Type 0} (m : Meaning V C) (r : Results R) (c : Contents V C R)
   -- the encounters made of starts are as many as the count, lie in range, and come in the order of their needed values: the lowest quantity first, A before B
   abbrev pub MadeOfStarts : Type 0
   MadeOfStarts = (lent : Encounter V) → whole lent ≡ true
-      → (length (from_starts m c lent) ≡ count m c) × All (InRange m c) (from_starts m c lent) × InOrder (Precedes m (places c)) (from_starts m c lent)
+      → (length (from_starts m c lent) ≡ count m c) × AllByRecursion (InRange m c) (from_starts m c lent) × InOrder (Precedes m (places c)) (from_starts m c lent)
 
   -- one after the other from the least values on, they all come, in order
   abbrev pub OneByOne : Type 0
@@ -65,4 +65,4 @@ module _ {V C R : Type 0} (m : Meaning V C) (r : Results R) (c : Contents V C R)
       → (remaining m c (places c) (reset m c (places c) e) ≡ from_starts m c e)
       × (remaining m c (places c) e ≡ e ∷ onward (remaining m c (places c)) (advance m c (places c) e))
       × (turned m c (places c) e ≡ (is_some (advance m c (places c) e), unwrap_or (advance m c (places c) e) (reset m c (places c) e)))
-      × All (λ p. value_of (reset m c (places c) e) p ≡ Some p.quantity.least) (places c)
+      × AllByRecursion (λ p. value_of (reset m c (places c) e) p ≡ Some p.quantity.least) (places c)

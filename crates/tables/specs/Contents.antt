@@ -1,6 +1,6 @@
 -- What a sheet says, apart from where its lists keep it, and what an encounter is. Assumes nothing.
 use Rattle.std.specs.Prelude.{◌≡◌, ℕ, suc, Bool, true, false, ◌&&◌, List, [], ◌∷◌, ◌++◌, map, length, Some, None, Option, ◌==◌, nat_le, slice_set}
-use Rattle.std.specs.List.{slice_get, AllByRecursion as All}
+use Rattle.std.specs.List.{slice_get, AllByRecursion}
 use Rattle.kinds.specs.Meaning.{Meaning}
 use Rattle.items.specs.declared.Scope.{Scope}
 use Rattle.items.specs.declared.Scope.TheVariants.{Flight, Pair as OfBoth}
@@ -80,4 +80,4 @@ module _ {V C : Type 0} (m : Meaning V C) where
   place_in_range e p = within p.quantity (value_of e p) ≡ true
 
   abbrev pub InRange : {R : Type 0} → Contents V C R → Encounter V → Type 0
-  InRange c e = All (place_in_range e) (places c)
+  InRange c e = AllByRecursion (place_in_range e) (places c)

@@ -1,6 +1,6 @@
 -- What each edit changes, and that it changes nothing else. Assumes nothing.
 use Rattle.std.specs.Prelude.{◌≡◌, ℕ, ◌+◌, ◌<◌, List, [], ◌∷◌, ◌++◌, length, Some, None, ◌≢◌}
-use Rattle.std.specs.List.{slice_get, AllByRecursion as All}
+use Rattle.std.specs.List.{slice_get, AllByRecursion}
 use Rattle.kinds.specs.Meaning.{Meaning}
 use Rattle.faults.specs.declared.SheetFault.{SheetFault}
 use Rattle.results.specs.Results.{Results}
@@ -28,7 +28,7 @@ module _ {X : Type 0} where
 
 -- any in every row
 abbrev pub AnyInEach : {C : Type 0} → List Row → List (Entry C) → Type 0
-AnyInEach ws xs = (length xs ≡ length ws) × All (λ x. x ≡ Any) xs
+AnyInEach ws xs = (length xs ≡ length ws) × AllByRecursion (λ x. x ≡ Any) xs
 
 module _ {V C R : Type 0} where
   -- of the contents c and d, all but these are the same

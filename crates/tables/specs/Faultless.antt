@@ -1,6 +1,6 @@
 -- The faults that a sheet can have over all encounters in range, and what a sheet without fault has. Assumes nothing.
 use Rattle.std.specs.Prelude.{◌≡◌, ℕ, true, false, ◌⊎◌}
-use Rattle.std.specs.List.{AllByRecursion as All}
+use Rattle.std.specs.List.{AllByRecursion}
 use Rattle.kinds.specs.Meaning.{Meaning}
 use Rattle.results.specs.Results.{Results}
 use Rattle.tables.specs.Contents.{Contents, Column, Encounter, exchange, InRange}
@@ -46,10 +46,10 @@ pub record Faultless {V C R : Type 0} (m : Meaning V C) (r : Results R) (c : Con
   -- each in range is barred or answered
   pub settled : EachInRange m r c (λ e. Barred m r c e ⊎ ((x : R) × (outcome m r c e ≡ answer x)))
   -- each column that an answered one meets bears the result that is answered
-  pub agreed : EachInRange m r c (λ e. (x : R) → outcome m r c e ≡ answer x → All (λ k. Meets m r c e k → r.same x k.result ≡ true) c.columns)
+  pub agreed : EachInRange m r c (λ e. (x : R) → outcome m r c e ≡ answer x → AllByRecursion (λ k. Meets m r c e k → r.same x k.result ≡ true) c.columns)
   -- any two columns that an answered one meets bear the same result
   pub same_result : EachInRange m r c (λ e. (x : R) → outcome m r c e ≡ answer x
-      → All (λ k. Meets m r c e k → All (λ l. Meets m r c e l → r.same k.result l.result ≡ true) c.columns) c.columns)
+      → AllByRecursion (λ k. Meets m r c e k → AllByRecursion (λ l. Meets m r c e l → r.same k.result l.result ≡ true) c.columns) c.columns)
   -- with the flights exchanged the barred stay barred, and the answers stay the same
   pub still_barred : EachInRange m r c (λ e. Barred m r c e → Barred m r c (exchange c e))
   pub still_answered : EachInRange m r c (λ e. (x : R) → outcome m r c e ≡ answer x → (y : R) × ((outcome m r c (exchange c e) ≡ answer y) × (r.same x y ≡ true)))

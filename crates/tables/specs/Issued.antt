@@ -1,6 +1,6 @@
 -- What each answer of issue says, over all encounters in range. Assumes nothing.
 use Rattle.std.specs.Prelude.{◌≡◌, ℕ, ◌<◌, ◌≤◌, true, false, Some, Decides}
-use Rattle.std.specs.List.{AllByRecursion as All}
+use Rattle.std.specs.List.{AllByRecursion}
 use Rattle.kinds.specs.Meaning.{Meaning}
 use Rattle.results.specs.Results.{Results}
 use Rattle.items.specs.declared.Side.{Side}
@@ -44,7 +44,7 @@ module _ {V C R : Type 0} (m : Meaning V C) (r : Results R) (c : Contents V C R)
 
   -- every needed entry holds its least value, and the others are as they were
   pub record AtLeast (e : Encounter V) : Type 0 where
-    pub least : All (λ p. value_of e p ≡ Some p.quantity.least) (places c)
+    pub least : AllByRecursion (λ p. value_of e p ≡ Some p.quantity.least) (places c)
     pub others : Unneeded e
 
   -- what the encounter lists hold after each answer

@@ -1,6 +1,6 @@
 -- What each outcome and each answer of look-up says. Assumes nothing.
 use Rattle.std.specs.Prelude.{◌≡◌, ℕ, suc, ◌+◌, true, false, ◌⊎◌, length, Some, None}
-use Rattle.std.specs.List.{slice_get, AllByRecursion as All}
+use Rattle.std.specs.List.{slice_get, AllByRecursion}
 use Rattle.kinds.specs.Meaning.{Meaning}
 use Rattle.faults.specs.declared.LookupFault.TheVariants.{OutOfRange, Barred as NotPossible, Gap as NoColumn, Clash as Unequal}
 use Rattle.results.specs.Results.{Results}
@@ -16,7 +16,7 @@ module _ {V C R : Type 0} (m : Meaning V C) (r : Results R) (c : Contents V C R)
   Unmet k = met m c.rows k.entries e ≡ false
 
   abbrev pub NoNever : Type 0
-  NoNever = All (λ n. met m c.rows n e ≡ false) c.nevers
+  NoNever = AllByRecursion (λ n. met m c.rows n e ≡ false) c.nevers
 
   -- if it is met, it bears a result equal to x
   abbrev pub Agrees : R → Column C R → Type 0
@@ -28,11 +28,11 @@ module _ {V C R : Type 0} (m : Meaning V C) (r : Results R) (c : Contents V C R)
   -- What each outcome means. A clash tells the lowest column met and the next one unequal to it.
   abbrev pub Fits : Outcome R → Type 0
   Fits barred = Any (λ n. met m c.rows n e ≡ true) c.nevers
-  Fits gap = NoNever × All Unmet c.columns × (c.default ≡ None)
+  Fits gap = NoNever × AllByRecursion Unmet c.columns × (c.default ≡ None)
   Fits (clash i j) = NoNever × (k : Cut Unmet (Meets m r c e) c.columns) × (i ≡ length k.before)
       × (l : Cut (Agrees k.here.result) (Disagrees k.here.result) k.rest) × (j ≡ suc i + length l.before)
   Fits (answer x) = NoNever
-      × (((k : Cut Unmet (Meets m r c e) c.columns) × (x ≡ k.here.result) × All (Agrees x) k.rest) ⊎ (All Unmet c.columns × (c.default ≡ Some x)))
+      × (((k : Cut Unmet (Meets m r c e) c.columns) × (x ≡ k.here.result) × AllByRecursion (Agrees x) k.rest) ⊎ (AllByRecursion Unmet c.columns × (c.default ≡ Some x)))
 
   abbrev pub Outside : Place V → Type 0
   Outside p = within m p.quantity (value_of e p) ≡ false

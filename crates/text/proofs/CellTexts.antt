@@ -3,7 +3,7 @@ use Rattle.std.proofs.Common.{◌≡◌, ℕ, zero, suc, ◌+◌, ◌-◌, ◌*�
 use Rattle.std.specs.Char.{is_ascii_digit}
 use Rattle.std.specs.Fmt.{signed_decimal}
 use Rattle.std.specs.Str.{all_ascii_digits, bytes_eq}
-use Rattle.std.specs.List.{between, AllByRecursion as All}
+use Rattle.std.specs.List.{between, AllByRecursion}
 use Rattle.std.proofs.lemmas.Slice.Eq.{bytes_eq-Decides}
 use Rattle.std.proofs.lemmas.Fmt.{digits_decimal, decimal_nonempty}
 use Rattle.std.proofs.lemmas.List.{take_at, drop_at, drop-drop, drop_more, take-append-drop, take_rest, take_all, length-append, length-drop, get_or-append_right, get_or_past, get_or_at, nil_from_length, drop_all}
@@ -39,11 +39,11 @@ both_some a b f c e =
 both-back : {X Y : Type 0} (a b : Option X) (f : X → X → Y) (x y : X) → a ≡ Some x → b ≡ Some y → both a b f ≡ Some (f x y)
 both-back a b f x y p q = ap (λ o. chain o (λ x. chain b (λ y. Some (f x y)))) p ∙ ap (λ o. chain o (λ y. Some (f x y))) q
 
-all_join : {X : Type 0} (P : X → Type 0) (xs ys : List X) → All P xs → All P ys → All P (xs ++ ys)
+all_join : {X : Type 0} (P : X → Type 0) (xs ys : List X) → AllByRecursion P xs → AllByRecursion P ys → AllByRecursion P (xs ++ ys)
 all_join P [] ys a b = b
 all_join P (x ∷ xs) ys a b = (a.0, all_join P xs ys a.1 b)
 
-all-weak : {X : Type 0} (P Q : X → Type 0) → ((x : X) → P x → Q x) → (xs : List X) → All P xs → All Q xs
+all-weak : {X : Type 0} (P Q : X → Type 0) → ((x : X) → P x → Q x) → (xs : List X) → AllByRecursion P xs → AllByRecursion Q xs
 all-weak P Q f [] a = tt
 all-weak P Q f (x ∷ xs) a = (f x a.0, all-weak P Q f xs a.1)
 
@@ -51,7 +51,7 @@ all-weak P Q f (x ∷ xs) a = (f x a.0, all-weak P Q f xs a.1)
 abbrev Plain : ℕ → Type 0
 Plain b = (45 ≤ b) × (b < 58) × (b ≡ 46 → ⊥)
 
-digits_in : (bs : List ℕ) → all_ascii_digits bs ≡ true → All (λ b. (48 ≤ b) × (b < 58)) bs
+digits_in : (bs : List ℕ) → all_ascii_digits bs ≡ true → AllByRecursion (λ b. (48 ≤ b) × (b < 58)) bs
 digits_in [] e = tt
 digits_in (b ∷ bs) e =
     let p : (is_ascii_digit b ≡ true) × (all_ascii_digits bs ≡ true) = and_parts _ _ e in
@@ -60,7 +60,7 @@ digits_in (b ∷ bs) e =
 plain-digit : (b : ℕ) → (48 ≤ b) × (b < 58) → Plain b
 plain-digit b h = let l = h.0 in (omega arith, h.1, λ e. omega arith)
 
-plain-signed : (z : ℤ) → seven_digits z ≡ true → All Plain (signed_decimal z)
+plain-signed : (z : ℤ) → seven_digits z ≡ true → AllByRecursion Plain (signed_decimal z)
 plain-signed (pos n) r =
     let s : n < 10000000 = ltb-true n 10000000 r in
     all-weak (λ b. (48 ≤ b) × (b < 58)) Plain plain-digit (decimal n) (digits_in (decimal n) (digits_decimal own n (omega arith)))
@@ -175,7 +175,7 @@ weigh-double j (n ∷ ns) a =
 
 -- numbers that all lie below a bound
 abbrev Under : ℕ → List ℕ → Type 0
-Under m ns = All (λ n. n < m) ns
+Under m ns = AllByRecursion (λ n. n < m) ns
 
 pow-none : (j : ℕ) → 2 ^ (j - j) ≡ 1
 pow-none j = let k : j - j ≡ 0 = omega arith in ap (λ i. 2 ^ i) k
@@ -290,13 +290,13 @@ weigh-below (suc k) j (n ∷ ns) a u =
     (cases_lt j n)
 
 -- sets in braces
-decimal-in : (n : ℕ) → n < 2 ^ 64 → All (λ b. (48 ≤ b) × (b < 58)) (decimal n)
+decimal-in : (n : ℕ) → n < 2 ^ 64 → AllByRecursion (λ b. (48 ≤ b) × (b < 58)) (decimal n)
 decimal-in n h = digits_in (decimal n) (digits_decimal own n h)
 
 free-comma : (b : ℕ) → (48 ≤ b) × (b < 58) → b ≡ 44 → ⊥
 free-comma b h e = omega (arith, h.0)
 
-frees-comma : (from : ℕ) (ns : List ℕ) → Asc from ns → All (Free 44) (map decimal ns)
+frees-comma : (from : ℕ) (ns : List ℕ) → Asc from ns → AllByRecursion (Free 44) (map decimal ns)
 frees-comma from [] a = tt
 frees-comma from (n ∷ ns) a = (all-weak (λ b. (48 ≤ b) × (b < 58)) (λ b. b ≡ 44 → ⊥) free-comma (decimal n) (decimal-in n (omega (arith, a.1))), frees-comma (n + 1) ns a.2)
 
@@ -362,11 +362,11 @@ names-parts bs c e =
 over : (b : ℕ) → (48 ≤ b) × (b < 58) → 32 < b
 over b h = omega (arith, h.0)
 
-follow-solid : (from : ℕ) (ns : List ℕ) → Asc from ns → All (λ b. 32 < b) (followed 44 (map decimal ns))
+follow-solid : (from : ℕ) (ns : List ℕ) → Asc from ns → AllByRecursion (λ b. 32 < b) (followed 44 (map decimal ns))
 follow-solid from [] a = tt
 follow-solid from (n ∷ ns) a = (omega arith, all_join (λ b. 32 < b) (decimal n) (followed 44 (map decimal ns)) (all-weak _ (λ b. 32 < b) over (decimal n) (decimal-in n (omega (arith, a.1)))) (follow-solid (n + 1) ns a.2))
 
-inner-solid : (ns : List ℕ) → Asc 0 ns → All (λ b. 32 < b) (rejoined 44 (map decimal ns))
+inner-solid : (ns : List ℕ) → Asc 0 ns → AllByRecursion (λ b. 32 < b) (rejoined 44 (map decimal ns))
 inner-solid [] a = tt
 inner-solid (n ∷ ns) a = all_join (λ b. 32 < b) (decimal n) (followed 44 (map decimal ns)) (all-weak _ (λ b. 32 < b) over (decimal n) (decimal-in n (omega (arith, a.1)))) (follow-solid (n + 1) ns a.2)
 
@@ -374,20 +374,20 @@ inner-solid (n ∷ ns) a = all_join (λ b. 32 < b) (decimal n) (followed 44 (map
 abbrev Banded : ℕ → Type 0
 Banded b = (45 ≤ b) × (b < 58)
 
-band-bytes : (low high : ℤ) → seven_digits low ≡ true → seven_digits high ≡ true → All Banded (band_text low high)
+band-bytes : (low high : ℤ) → seven_digits low ≡ true → seven_digits high ≡ true → AllByRecursion Banded (band_text low high)
 band-bytes low high r s =
     let f : (b : ℕ) → Plain b → Banded b = λ b h. (h.0, h.1) in
     all_join Banded (signed_decimal low) (46 ∷ (46 ∷ signed_decimal high)) (all-weak Plain Banded f (signed_decimal low) (plain-signed low r))
     ((omega arith, omega arith), ((omega arith, omega arith), all-weak Plain Banded f (signed_decimal high) (plain-signed high s)))
 
-band-solid : (low high : ℤ) → seven_digits low ≡ true → seven_digits high ≡ true → All (λ b. 32 < b) (band_text low high)
+band-solid : (low high : ℤ) → seven_digits low ≡ true → seven_digits high ≡ true → AllByRecursion (λ b. 32 < b) (band_text low high)
 band-solid low high r s = all-weak Banded (λ b. 32 < b) (λ b h. omega (arith, h.0)) (band_text low high) (band-bytes low high r s)
 
-marked-solid : (inside : Bool) (low high : ℤ) → seven_digits low ≡ true → seven_digits high ≡ true → All (λ b. 32 < b) (marked_text inside low high)
+marked-solid : (inside : Bool) (low high : ℤ) → seven_digits low ≡ true → seven_digits high ≡ true → AllByRecursion (λ b. 32 < b) (marked_text inside low high)
 marked-solid true low high r s = band-solid low high r s
 marked-solid false low high r s = (omega arith, band-solid low high r s)
 
-cell-solid : (c : Cell) → cell_right c ≡ true → All (λ b. 32 < b) (cell_text c)
+cell-solid : (c : Cell) → cell_right c ≡ true → AllByRecursion (λ b. 32 < b) (cell_text c)
 cell-solid (Left c) r = let p = and_parts (seven_digits c.lo) (seven_digits c.hi) r in marked-solid c.inside c.lo c.hi p.0 p.1
 cell-solid (Right (Left c)) r =
     let set = c.bits in
@@ -399,12 +399,12 @@ cell-solid (Right (Right c)) r =
     all_join (λ b. 32 < b) (time_text a) (45 ∷ time_text b) (times.solid (time_text a) a (times.back a p.0)) (omega arith, times.solid (time_text b) b (times.back b p.1))
 
 -- the byte at a place, of a text with such bytes
-banded-at : (bs : List ℕ) (i : ℕ) → All Banded bs → i < length bs → Banded (get_or bs i 0)
+banded-at : (bs : List ℕ) (i : ℕ) → AllByRecursion Banded bs → i < length bs → Banded (get_or bs i 0)
 banded-at [] i a h = absurd (omega arith)
 banded-at (b ∷ bs) zero a h = a.0
 banded-at (b ∷ bs) (suc i) a h = banded-at bs i a.1 (omega arith)
 
-banded-not : (bs : List ℕ) (i x : ℕ) → All Banded bs → i < length bs ⊎ (length bs ≤ i) → 57 < x → get_or bs i 0 ≡ x → ⊥
+banded-not : (bs : List ℕ) (i x : ℕ) → AllByRecursion Banded bs → i < length bs ⊎ (length bs ≤ i) → 57 < x → get_or bs i 0 ≡ x → ⊥
 banded-not bs i x a (inl l) h e = omega (arith, (banded-at bs i a l).1)
 banded-not bs i x a (inr l) h e = omega (arith, get_or_past bs i 0 l)
 
@@ -480,9 +480,9 @@ entry-same bs e h =
     (λ t s. let p = chain-some (cell bs) (λ c. Some (CellE c)) e s in
     subst (λ v. (entry_right v ≡ true) × (entry_text v ≡ bs)) (some_same _ _ p.2) (cell_same bs p.0 p.1))
 
-entry-solid : (e : Entry Cell) → entry_right e ≡ true → All (λ b. 32 < b) (entry_text e)
+entry-solid : (e : Entry Cell) → entry_right e ≡ true → AllByRecursion (λ b. 32 < b) (entry_text e)
 entry-solid Any r = (omega arith, tt)
 entry-solid (CellE c) r = cell-solid c r
 
 pub entries-faithful : Faithful entry_form
-entries-faithful = record { back = entry-back; same = entry-same; solid = λ bs e h. let p = entry-same bs e h in subst (λ l. All (λ b. 32 < b) l) p.1 (entry-solid e p.0) }
+entries-faithful = record { back = entry-back; same = entry-same; solid = λ bs e h. let p = entry-same bs e h in subst (λ l. AllByRecursion (λ b. 32 < b) l) p.1 (entry-solid e p.0) }

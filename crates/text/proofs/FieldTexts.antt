@@ -1,7 +1,7 @@
 -- Fields: what is written of a value reads back, and what was read is written back.
 use Rattle.std.proofs.Common.{◌≡◌, ℕ, suc, ◌+◌, ◌-◌, ◌*◌, ◌/◌, ◌%◌, ◌^◌, ◌<◌, ◌≤◌, Bool, true, false, cond, not, ◌&&◌, ◌||◌, eqb, ltb, leb, List, [], ◌∷◌, ◌++◌, length, get_or, ℤ, pos, negsuc, Some, None, decimal, Option, sym, refl, ap, ◌∙◌, subst, ⊎_elim, arith, rules}
 use Rattle.std.specs.Str.{all_ascii_digits, bytes_eq}
-use Rattle.std.specs.List.{AllByRecursion as All}
+use Rattle.std.specs.List.{AllByRecursion}
 use Rattle.std.specs.Char.{is_ascii_digit}
 use Rattle.std.specs.Fmt.{signed_decimal}
 use Rattle.std.proofs.lemmas.Slice.Eq.{bytes_eq-Decides}
@@ -31,7 +31,7 @@ pub some-under : {X : Type 0} (b : Bool) (o : Option X) (x : X) → cond b o Non
 some-under true o x e = (refl, e)
 some-under false o x e = let z : ◌≡◌ {A = ℕ} 0 1 = cc in absurd (omega arith)
 
-pub digits-solid : (bs : List ℕ) → all_ascii_digits bs ≡ true → All (λ b. 32 < b) bs
+pub digits-solid : (bs : List ℕ) → all_ascii_digits bs ≡ true → AllByRecursion (λ b. 32 < b) bs
 digits-solid [] e = tt
 digits-solid (b ∷ bs) e =
     let p : (is_ascii_digit b ≡ true) × (all_ascii_digits bs ≡ true) = and_parts _ _ e in
@@ -66,14 +66,14 @@ number_same bs n e =
     let small : value_after 0 bs < 10 ^ 7 = digits_value_short own bs 7 p.0 p.2 in
     (lt-ltb n 10000000 (omega arith), ap decimal (sym v) ∙ decimal-digits_value own bs p.0 p.1 p.3 (omega arith))
 
-number-solid : (bs : List ℕ) (n : ℕ) → number bs ≡ Some n → All (λ b. 32 < b) bs
+number-solid : (bs : List ℕ) (n : ℕ) → number bs ≡ Some n → AllByRecursion (λ b. 32 < b) bs
 number-solid bs n e = digits-solid bs (numeral-parts bs (some-under (numeral bs) (Some (value_after 0 bs)) n e).0).0
 
 pub numbers : Faithful number_form
 numbers = record { back = number-back; same = number_same; solid = number-solid }
 
 -- words
-worded-is : {X : Type 0} (P : List ℕ → X → Type 0) (table : List (List ℕ × X)) → All (λ p. P p.0 p.1) table → (bs : List ℕ) (x : X) → worded table bs ≡ Some x → P bs x
+worded-is : {X : Type 0} (P : List ℕ → X → Type 0) (table : List (List ℕ × X)) → AllByRecursion (λ p. P p.0 p.1) table → (bs : List ℕ) (x : X) → worded table bs ≡ Some x → P bs x
 worded-is P [] a bs x e = let z : ◌≡◌ {A = ℕ} 0 1 = cc in absurd (omega arith)
 worded-is P (p ∷ ps) a bs x e =
     ⊎_elim (λ (t : bytes_eq bs p.0 ≡ true).
@@ -84,11 +84,11 @@ worded-is P (p ∷ ps) a bs x e =
     (λ (f : bytes_eq bs p.0 ≡ false). worded-is P ps a.1 bs x (sym (cond-false _ _ _ f) ∙ e)) (cases_Bool (bytes_eq bs p.0))
 
 -- a form whose words stand in a table
-pub tabled : {X : Type 0} (text : X → List ℕ) (table : List (List ℕ × X)) → ((x : X) → worded table (text x) ≡ Some x) → All (λ p. (text p.1 ≡ p.0) × All (λ b. 32 < b) p.0) table → Faithful (record { right = λ x. true; text = text; read = worded table })
+pub tabled : {X : Type 0} (text : X → List ℕ) (table : List (List ℕ × X)) → ((x : X) → worded table (text x) ≡ Some x) → AllByRecursion (λ p. (text p.1 ≡ p.0) × AllByRecursion (λ b. 32 < b) p.0) table → Faithful (record { right = λ x. true; text = text; read = worded table })
 tabled text table back a = record {
   back = λ x r. back x;
-  same = λ bs x e. (refl, (worded-is (λ l y. (text y ≡ l) × All (λ b. 32 < b) l) table a bs x e).0);
-  solid = λ bs x e. (worded-is (λ l y. (text y ≡ l) × All (λ b. 32 < b) l) table a bs x e).1;
+  same = λ bs x e. (refl, (worded-is (λ l y. (text y ≡ l) × AllByRecursion (λ b. 32 < b) l) table a bs x e).0);
+  solid = λ bs x e. (worded-is (λ l y. (text y ≡ l) × AllByRecursion (λ b. 32 < b) l) table a bs x e).1;
 }
 
 mode-back : (m : Mode) → mode (mode_text m) ≡ Some m
@@ -144,7 +144,7 @@ above-some (Some n) z e = (n, refl, cc)
 above-some None z e = let q : ◌≡◌ {A = ℕ} 0 1 = cc in absurd (omega arith)
 
 -- what a measure's field is: digits, or a minus and digits
-measure-parts : (bs : List ℕ) (z : ℤ) → measure bs ≡ Some z → (seven_digits z ≡ true) × (signed_decimal z ≡ bs) × All (λ b. 32 < b) bs
+measure-parts : (bs : List ℕ) (z : ℤ) → measure bs ≡ Some z → (seven_digits z ≡ true) × (signed_decimal z ≡ bs) × AllByRecursion (λ b. 32 < b) bs
 measure-parts [] z e = let q : ◌≡◌ {A = ℕ} 0 1 = cc in absurd (omega arith)
 measure-parts (b ∷ bs) z e =
     ⊎_elim (λ (t : eqb b 45 ≡ true).
@@ -196,7 +196,7 @@ two-same x y n e =
     let hy : 48 + n % 10 ≡ y = omega arith in
     (cc, omega arith, omega arith)
 
-two_at : (a b c d e : ℕ) (t : ℕ) → c ≡ 58 → minutes (figures (a ∷ (b ∷ []))) (figures (d ∷ (e ∷ []))) ≡ Some t → (ltb t 1440 ≡ true) × (time_form.text t ≡ a ∷ (b ∷ (c ∷ (d ∷ (e ∷ []))))) × All (λ x. 32 < x) (a ∷ (b ∷ (c ∷ (d ∷ (e ∷ [])))))
+two_at : (a b c d e : ℕ) (t : ℕ) → c ≡ 58 → minutes (figures (a ∷ (b ∷ []))) (figures (d ∷ (e ∷ []))) ≡ Some t → (ltb t 1440 ≡ true) × (time_form.text t ≡ a ∷ (b ∷ (c ∷ (d ∷ (e ∷ []))))) × AllByRecursion (λ x. 32 < x) (a ∷ (b ∷ (c ∷ (d ∷ (e ∷ [])))))
 two_at a b c d e t colon m =
     let g = minutes-some (figures (a ∷ (b ∷ []))) (figures (d ∷ (e ∷ []))) t m in
     let h = two-same a b g.0 g.2 in
@@ -210,7 +210,7 @@ two_at a b c d e t colon m =
       (h.1, (h.2, (omega arith, (k.1, (k.2, tt))))),
     )
 
-time-parts : (bs : List ℕ) (t : ℕ) → time bs ≡ Some t → (ltb t 1440 ≡ true) × (time_form.text t ≡ bs) × All (λ x. 32 < x) bs
+time-parts : (bs : List ℕ) (t : ℕ) → time bs ≡ Some t → (ltb t 1440 ≡ true) × (time_form.text t ≡ bs) × AllByRecursion (λ x. 32 < x) bs
 time-parts (a ∷ (b ∷ (c ∷ (d ∷ (e ∷ []))))) t m =
     let u = some-under (eqb c 58) (minutes (figures (a ∷ (b ∷ []))) (figures (d ∷ (e ∷ [])))) t m in
     two_at a b c d e t (eqb-true c 58 u.0) u.1
@@ -252,7 +252,7 @@ value-back Clock (Right (Left n)) r = let q : ◌≡◌ {A = ℕ} 0 1 = cc in ab
 value-back Clock (Right (Right t)) r = ap (each minute_value) (times.back t r)
 
 abbrev OfValue : KindWord → List ℕ → Value → Type 0
-OfValue k bs v = (value_right k v ≡ true) × (value_text v ≡ bs) × All (λ x. 32 < x) bs
+OfValue k bs v = (value_right k v ≡ true) × (value_text v ≡ bs) × AllByRecursion (λ x. 32 < x) bs
 
 value-parts : (k : KindWord) (bs : List ℕ) (v : Value) → value k bs ≡ Some v → OfValue k bs v
 value-parts Measure bs v e =

@@ -1,7 +1,7 @@
 -- How long a line is at most.
 use Rattle.std.proofs.Common.{◌≡◌, ℕ, zero, suc, ◌+◌, ◌*◌, ◌/◌, ◌%◌, ◌<◌, ◌≤◌, Bool, true, false, cond, eqb, List, [], ◌∷◌, ◌++◌, map, length, ℤ, pos, negsuc, decimal, ap, ◌∙◌, arith}
 use Rattle.std.specs.Fmt.{signed_decimal}
-use Rattle.std.specs.List.{flat_map, AllByRecursion as All}
+use Rattle.std.specs.List.{flat_map, AllByRecursion}
 use Rattle.std.proofs.lemmas.Fmt.{length-decimal-le}
 use Rattle.std.proofs.lemmas.List.{length-append}
 use Rattle.std.proofs.lemmas.Bool.{and_parts, ltb-true}
@@ -96,7 +96,7 @@ entry-le : (e : Entry Cell) → entry_right e ≡ true → length (entry_text e)
 entry-le Any r = omega arith
 entry-le (CellE c) r = cell-le c r
 
-entries-le : (es : List (Entry Cell)) → All (λ e. entry_right e ≡ true) es → length (followed 32 (map entry_text es)) ≤ 99 * length es
+entries-le : (es : List (Entry Cell)) → AllByRecursion (λ e. entry_right e ≡ true) es → length (followed 32 (map entry_text es)) ≤ 99 * length es
 entries-le [] a = omega arith
 entries-le (e ∷ es) a =
     omega (arith, length-append (entry_text e) (followed 32 (map entry_text es)), entry-le e a.0, entries-le es a.1)

@@ -1,7 +1,7 @@
 -- Lines and pages: what is written reads back, and what was read is written back.
 use Rattle.std.proofs.Common.{◌≡◌, ℕ, zero, suc, ◌+◌, ◌<◌, ◌≤◌, true, ◌&&◌, ltb, leb, List, [], ◌∷◌, ◌++◌, map, length, Some, None, Ok, Err, codes, Option, Result, sym, refl, ap, ◌∙◌, subst, arith}
 use Rattle.std.specs.Fmt.{signed_decimal}
-use Rattle.std.specs.List.{flat_map, AllByRecursion as All}
+use Rattle.std.specs.List.{flat_map, AllByRecursion}
 use Rattle.std.proofs.ByRecursion.{All-append}
 use Rattle.std.proofs.lemmas.Bool.{cond-true, and_from, and_parts, le-leb, leb-true}
 use Rattle.house.specs.House.{Value, Cell}
@@ -52,7 +52,7 @@ module _ {X : Type 0} {form : Form X} (law : Faithful form) where
   first_back : (x : X) (at : ℕ) (fs : List (List ℕ)) → form.right x ≡ true → first form.read at (form.text x ∷ fs) ≡ Ok x
   first_back x at fs r = ap (or_at at) (law.back x r)
 
-  text-solid : (x : X) → form.right x ≡ true → All (λ b. 32 < b) (form.text x)
+  text-solid : (x : X) → form.right x ≡ true → AllByRecursion (λ b. 32 < b) (form.text x)
   text-solid x r = law.solid (form.text x) x (law.back x r)
 
   first-same : (at : ℕ) (fs : List (List ℕ)) (x : X) → first form.read at fs ≡ Ok x → (form.right x ≡ true) × (fs ≡ form.text x ∷ rest fs)
@@ -73,7 +73,7 @@ row_same fs l at e =
     subst (λ (y : RowLine). (row_right y.row ≡ true) × (row_fields y.row ≡ fs)) c.1
     (p.0, sym (p.1 ∙ ap (λ l. number_form.text a.0 ∷ l) (q.1 ∙ ap (λ l. mode_form.text b.0 ∷ l) c.0)))
 
-row-solid : (r : Row) → row_right r ≡ true → All (λ f. All (λ b. 32 < b) f) (row_fields r)
+row-solid : (r : Row) → row_right r ≡ true → AllByRecursion (λ f. AllByRecursion (λ b. 32 < b) f) (row_fields r)
 row-solid r h = (text-solid numbers r.quantity h, (text-solid modes-faithful r.mode refl, tt))
 
 -- quantities
@@ -109,7 +109,7 @@ quantity-same s fs l at e =
     ∙ ap (λ j. kind_form.text j ∷ ((value_form k).text lo ∷ ((value_form k).text hi ∷ []))) is) in
     subst (OfQuantity s fs) d.1 (refl, right, text)
 
-quantity-solid : (q : Quantity Value) → quantity_right q ≡ true → All (λ f. All (λ b. 32 < b) f) (quantity_fields q)
+quantity-solid : (q : Quantity Value) → quantity_right q ≡ true → AllByRecursion (λ f. AllByRecursion (λ b. 32 < b) f) (quantity_fields q)
 quantity-solid q h =
     let k = kind_of q.least in
     let p = and_parts ((value_form k).right q.least) ((value_form k).right q.greatest) h in
@@ -136,7 +136,7 @@ placed_same at fs p e =
     subst (λ (y : Placed). (entry_right y.entry ≡ true) × (fs ≡ entry_text y.entry ∷ rest fs)) (ok_same (record { entry = a.0; byte = at }) p a.2) q
 
 abbrev AllRight : List (Entry Cell) → Type 0
-AllRight es = All (λ e. entry_right e ≡ true) es
+AllRight es = AllByRecursion (λ e. entry_right e ≡ true) es
 
 in_row-back : (es : List (Entry Cell)) (n at : ℕ) → length es ≡ n → AllRight es → in_row n at (map entry_text es) ≡ Ok (placed_from at es)
 in_row-back [] n at h a = subst (λ m. in_row m at [] ≡ Ok []) h refl
@@ -170,7 +170,7 @@ entries-same n at fs ps r =
     let u = under-err (leb n 16) (in_row n at fs) 1 ps r in
     (leb-true n 16 u.0, in_row-same n at fs ps u.1)
 
-entries-solid : (es : List (Entry Cell)) → AllRight es → All (λ f. All (λ b. 32 < b) f) (map entry_text es)
+entries-solid : (es : List (Entry Cell)) → AllRight es → AllByRecursion (λ f. AllByRecursion (λ b. 32 < b) f) (map entry_text es)
 entries-solid [] a = tt
 entries-solid (e ∷ es) a = (text-solid entries-faithful e a.0, entries-solid es a.1)
 
@@ -241,7 +241,7 @@ line-bare at (say_column x es) = ap (say_column x) (unplaced-from (rest_at at (s
 line-bare at (say_never es) = ap say_never (unplaced-from at es)
 line-bare at (say_default x) = refl
 
-line-solid : (n : ℕ) (x : Said) → LineRight n x → All (λ f. All (λ b. 32 < b) f) (fields_of x)
+line-solid : (n : ℕ) (x : Said) → LineRight n x → AllByRecursion (λ f. AllByRecursion (λ b. 32 < b) f) (fields_of x)
 line-solid n (say_quantity q) h = quantity-solid q h
 line-solid n (say_row r) h = row-solid r h
 line-solid n (say_column x es) h = (text-solid measures x.value h.0, entries-solid es h.3)
@@ -324,7 +324,7 @@ lines_same s n k (l ∷ ls) ys e =
     ((y, g.2, o), ap (λ v. v ∷ map line_body xs) u ∙ ap (λ v. l ∷ v) r.1)
 
 -- no line has a byte 10 inside
-follow-free : (fs : List (List ℕ)) → All (λ f. All (λ b. 32 < b) f) fs → Free 10 (followed 32 fs)
+follow-free : (fs : List (List ℕ)) → AllByRecursion (λ f. AllByRecursion (λ b. 32 < b) f) fs → Free 10 (followed 32 fs)
 follow-free [] a = tt
 follow-free (f ∷ fs) a = ((λ e. omega arith), All-append (λ b. b ≡ 10 → ⊥) f (followed 32 fs) (free-low 10 f (omega arith) a.0) (follow-free fs a.1))
 
@@ -333,7 +333,7 @@ line-free n x h =
     let w = word_text (word_of x) in
     All-append (λ b. b ≡ 10 → ⊥) w (followed 32 (fields_of x)) (free-low 10 w (omega arith) (text-solid words-faithful (word_of x) refl)) (follow-free (fields_of x) (line-solid n x h))
 
-lines-free : (s : Section) (n : ℕ) (xs : List Said) → Ordered s n xs → All (Free 10) (map line_body xs)
+lines-free : (s : Section) (n : ℕ) (xs : List Said) → Ordered s n xs → AllByRecursion (Free 10) (map line_body xs)
 lines-free s n [] h = tt
 lines-free s n (x ∷ xs) h = (line-free n x h.1, lines-free (section_of (word_of x)) (rows_after (word_of x) n) xs h.2)
 

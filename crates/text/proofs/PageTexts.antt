@@ -4,7 +4,7 @@ use Rattle.std.proofs.lemmas.List.{length-take-le, length-append, take_rest, tak
 use Rattle.std.proofs.lemmas.Bool.{cond-true, cond-false, cases_Bool, cases_lt, eqb-true, eq-eqb, ne_eqb, le-leb, leb-true, and_from, and_parts, or_left, or_right, or_cases}
 use Rattle.std.proofs.lemmas.Slice.Eq.{bytes_eq-Decides}
 use Rattle.std.specs.Str.{bytes_eq}
-use Rattle.std.specs.List.{flat_map, between, AllByRecursion as All}
+use Rattle.std.specs.List.{flat_map, between, AllByRecursion}
 use Rattle.text.specs.Fields.{in_front}
 use Rattle.text.specs.Lines.{Line}
 use Rattle.text.specs.Pages.{lined, closed, lines_of, page_of, too_long, not_closed}
@@ -42,7 +42,7 @@ lined-line : (l rest : List ℕ) → Free 10 l → lined ((l ++ (10 ∷ [])) ++ 
 lined-line [] rest a = refl
 lined-line (b ∷ l) rest a = cond-false _ _ _ (ne_eqb b 10 a.0) ∙ ap (in_front b) (lined-line l rest a.1)
 
-pub lined-back : (ls : List (List ℕ)) → All (Free 10) ls → lined (flat_map (λ l. l ++ (10 ∷ [])) ls) ≡ ls
+pub lined-back : (ls : List (List ℕ)) → AllByRecursion (Free 10) ls → lined (flat_map (λ l. l ++ (10 ∷ [])) ls) ≡ ls
 lined-back [] a = refl
 lined-back (l ∷ ls) a = lined-line l (flat_map (λ l. l ++ (10 ∷ [])) ls) a.0 ∙ ap (λ r. l ∷ r) (lined-back ls a.1)
 

@@ -4,7 +4,7 @@ use lib.Dec.{leb-suc-suc}
 use Rattle.std.proofs.lemmas.List.{at_drop_more, at_drop_all, drop-drop}
 use Rattle.std.proofs.lemmas.Bool.Decides.{nat_tests}
 use Rattle.std.proofs.lemmas.Bool.{le-leb, lt-leb, eq-eqb, ne_eqb, cond-true, cond-false, eqb-true, cases_Bool}
-use Rattle.std.specs.List.{AllByRecursion as All}
+use Rattle.std.specs.List.{AllByRecursion}
 use Rattle.text.specs.Fields.{in_front, parted, followed, rejoined, up_to, parts_from, fields_from}
 
 pub up_to-on : (sep : ℕ) (xs : List ℕ) (at : ℕ) → at < length xs → (get_or xs at 0 ≡ sep → ⊥) → up_to sep (drop at xs) ≡ suc (up_to sep (drop (at + 1) xs))
@@ -65,20 +65,20 @@ whole sep (b ∷ bs) =
 
 -- no byte of a part is the separator
 abbrev pub Free : ℕ → List ℕ → Type 0
-Free sep f = All (λ b. b ≡ sep → ⊥) f
+Free sep f = AllByRecursion (λ b. b ≡ sep → ⊥) f
 
-pub apart-free : (sep : ℕ) (f : List ℕ) (fs : List (List ℕ)) → Free sep f → All (Free sep) fs → parted sep (rejoined sep (f ∷ fs)) ≡ f ∷ fs
+pub apart-free : (sep : ℕ) (f : List ℕ) (fs : List (List ℕ)) → Free sep f → AllByRecursion (Free sep) fs → parted sep (rejoined sep (f ∷ fs)) ≡ f ∷ fs
 apart-free sep [] [] a rs = refl
 apart-free sep [] (g ∷ gs) a rs = cond-true _ _ _ (eq-eqb sep sep refl) ∙ ap (λ l. [] ∷ l) (apart-free sep g gs rs.0 rs.1)
 apart-free sep (b ∷ f) fs a rs = cond-false _ _ _ (ne_eqb b sep a.0) ∙ ap (in_front b) (apart-free sep f fs a.1 rs)
 
-pub free-low : (sep : ℕ) (f : List ℕ) → sep ≤ 32 → All (λ b. 32 < b) f → Free sep f
+pub free-low : (sep : ℕ) (f : List ℕ) → sep ≤ 32 → AllByRecursion (λ b. 32 < b) f → Free sep f
 free-low sep [] low a = tt
 free-low sep (b ∷ f) low a = let h : 32 < b = a.0 in ((λ e. omega arith), free-low sep f low a.1)
 
-frees-low : (sep : ℕ) (fs : List (List ℕ)) → sep ≤ 32 → All (λ f. All (λ b. 32 < b) f) fs → All (Free sep) fs
+frees-low : (sep : ℕ) (fs : List (List ℕ)) → sep ≤ 32 → AllByRecursion (λ f. AllByRecursion (λ b. 32 < b) f) fs → AllByRecursion (Free sep) fs
 frees-low sep [] low a = tt
 frees-low sep (f ∷ fs) low a = (free-low sep f low a.0, frees-low sep fs low a.1)
 
-pub apart : (sep : ℕ) (f : List ℕ) (fs : List (List ℕ)) → sep ≤ 32 → All (λ b. 32 < b) f → All (λ f. All (λ b. 32 < b) f) fs → parted sep (rejoined sep (f ∷ fs)) ≡ f ∷ fs
+pub apart : (sep : ℕ) (f : List ℕ) (fs : List (List ℕ)) → sep ≤ 32 → AllByRecursion (λ b. 32 < b) f → AllByRecursion (λ f. AllByRecursion (λ b. 32 < b) f) fs → parted sep (rejoined sep (f ∷ fs)) ≡ f ∷ fs
 apart sep f fs low a rs = apart-free sep f fs (free-low sep f low a) (frees-low sep fs low rs)

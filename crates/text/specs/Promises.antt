@@ -2,7 +2,7 @@
 -- back, byte for byte. Assumes nothing.
 use Rattle.std.specs.Prelude.{◌≡◌, ℕ, ◌+◌, ◌<◌, ◌≤◌, true, List, ◌∷◌, map, length, ℤ, Ok, decimal, nat_lt}
 use Rattle.std.specs.Fmt.{signed_decimal}
-use Rattle.std.specs.List.{AllByRecursion as All}
+use Rattle.std.specs.List.{AllByRecursion}
 use Rattle.house.specs.House.{Value, Cell}
 use Rattle.items.specs.declared.Mode.{Mode}
 use Rattle.items.specs.declared.Entry.{Entry}
@@ -58,7 +58,7 @@ pub record Fields-faithful : Type 0 where
 -- a text is its parts put together, and parts without a separator are the parts of what they make
 pub record Parts-faithful : Type 0 where
   pub whole : (sep : ℕ) (bs : List ℕ) → rejoined sep (parted sep bs) ≡ bs
-  pub parts : (sep : ℕ) (f : List ℕ) (fs : List (List ℕ)) → sep ≤ 32 → All (λ b. 32 < b) f → All (λ f. All (λ b. 32 < b) f) fs → parted sep (rejoined sep (f ∷ fs)) ≡ f ∷ fs
+  pub parts : (sep : ℕ) (f : List ℕ) (fs : List (List ℕ)) → sep ≤ 32 → AllByRecursion (λ b. 32 < b) f → AllByRecursion (λ f. AllByRecursion (λ b. 32 < b) f) fs → parted sep (rejoined sep (f ∷ fs)) ≡ f ∷ fs
 
 -- the fields after a line's first word, which start at byte `at`
 pub record Line-faithful : Type 0 where

@@ -2,7 +2,7 @@
 -- parted by single spaces, and a line ends in byte 10. Assumes nothing.
 use Rattle.std.specs.Prelude.{◌≡◌, ℕ, zero, suc, ◌+◌, ◌/◌, ◌%◌, ◌≤◌, Bool, true, false, cond, ◌&&◌, List, [], ◌∷◌, ◌++◌, map, length, ℤ, pos, negsuc, Some, codes, decimal, ◌==◌, nat_lt}
 use Rattle.std.specs.Fmt.{signed_decimal}
-use Rattle.std.specs.List.{flat_map, AllByRecursion as All}
+use Rattle.std.specs.List.{flat_map, AllByRecursion}
 use Rattle.joined.specs.declared.Either.TheVariants.{Left, Right}
 use Rattle.house.specs.House.{Value, Cell}
 use Rattle.items.specs.declared.Mode.{Mode}
@@ -214,8 +214,8 @@ located x = located_at (rest_at 1 (word_text (word_of x) ∷ fields_of x)) x
 abbrev pub LineRight : ℕ → Said → Type 0
 LineRight n (say_quantity q) = quantity_right q ≡ true
 LineRight n (say_row r) = row_right r ≡ true
-LineRight n (say_column x es) = (seven_digits x.value ≡ true) × (length es ≡ n) × (n ≤ 16) × All (λ e. entry_right e ≡ true) es
-LineRight n (say_never es) = (length es ≡ n) × (n ≤ 16) × All (λ e. entry_right e ≡ true) es
+LineRight n (say_column x es) = (seven_digits x.value ≡ true) × (length es ≡ n) × (n ≤ 16) × AllByRecursion (λ e. entry_right e ≡ true) es
+LineRight n (say_never es) = (length es ≡ n) × (n ≤ 16) × AllByRecursion (λ e. entry_right e ≡ true) es
 LineRight n (say_default x) = seven_digits x.value ≡ true
 
 -- lines that may follow one another, in a section and after `n` rows
