@@ -1,16 +1,16 @@
 -- A probe with the flights exchanged answers the same. Assumes nothing.
-use Rattle.std.proofs.Common.{◌≡◌, Bool, true, false, cond, ◌&&◌, ◌⊎◌, ℤ, pos, ◌-ℤ◌, ◌*ℤ◌, Ok, Err, Result, sym, refl, ap, ◌∙◌, ap₂, inl, inr, arith}
+use Rattle.std.proofs.Common.{◌≡◌, Bool, true, false, cond, ◌&&◌, ℤ, pos, ◌-ℤ◌, ◌*ℤ◌, Ok, Err, Result, sym, refl, ap, ◌∙◌, ap₂, inl, inr, arith}
 use Rattle.std.proofs.lemmas.Bool.Decides.{nat_tests}
 use Rattle.std.proofs.lemmas.Int.{ints}
 use Rattle.kinds.specs.Meaning.{Meaning}
 use Rattle.faults.specs.declared.SheetFault.TheVariants.{Lists as ListsFault}
-use Rattle.results.specs.Results.{Results, Plain, same_number}
+use Rattle.results.specs.Results.{Results, same_number}
 use Rattle.results.specs.Figures.{figures}
 use Rattle.results.specs.Periods.{periods}
 use Rattle.results.specs.declared.figure.Figure.{Figure}
 use Rattle.results.specs.declared.period.Period.{Period}
 use Rattle.tables.specs.Contents.{Encounter}
-use Rattle.tables.specs.Lookups.{Look, found, look_up, told}
+use Rattle.tables.specs.Lookups.{found, look_up, told}
 use Rattle.tables.specs.Storage.{in_order}
 use Rattle.tables.specs.Margins.{difference}
 use Rattle.tables.proofs.Looking.{looked-up-rightly}
@@ -27,7 +27,7 @@ use Rattle.probe.specs.declared.minima.Along.{Along}
 use Rattle.probe.specs.declared.minima.Along.TheVariants.{Trail, Opposition}
 use Rattle.probe.specs.declared.minima.Minima.{Minima}
 use Rattle.probe.specs.Lettering.{lettered, raised}
-use Rattle.probe.specs.Probed.{Source, Four, held, answer_of, and_then, along_of, minima_of, longitudinal_margin, verdict_of, in_limits, probed}
+use Rattle.probe.specs.Probed.{Source, Four, held, answer_of, and_then, along_of, minima_of, longitudinal_margin, verdict_of, in_limits}
 use Rattle.probe.specs.Exchanged.{exchanged, Fit, FitAlong, FitAll, SameExchanged}
 
 same_number_lem : (x y : ℤ) → same_number x y ≡ true → x ≡ y

@@ -9,7 +9,6 @@ use Rattle.faults.specs.declared.SheetFault.TheVariants.{Lookup}
 use Rattle.results.specs.Results.{Results, Equal, same_number}
 use Rattle.results.specs.Figures.{figures}
 use Rattle.results.specs.Periods.{periods}
-use Rattle.tables.specs.Answers.{look_up_answer}
 use Rattle.tables.specs.Calls.{Call, made}
 use Rattle.tables.specs.Contents.{Encounter, InRange, whole}
 use Rattle.tables.specs.Faultless.{Faultless}
