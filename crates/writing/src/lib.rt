@@ -3,6 +3,6 @@
 #![tactic(auto)]
 
 mod gathering;
-mod names;
 mod sections;
+mod set_bits;
 pub mod writing;

@@ -9,8 +9,8 @@ ghost use Rattle.tables.specs.Storage.{Bounded, contents_of, in_order};
 ghost use Rattle.writer.specs.Writing.{Fresh, buffer};
 
 use crate::gathering::PageView;
-use crate::names::only_names;
 use crate::sections::page;
+use crate::set_bits::only_names;
 use faults::SheetFault;
 use house::House;
 use items::Counts;
