@@ -27,7 +27,7 @@ use Rattle.probe.specs.declared.fault.ProbeFault.TheVariants.{Limits, Sheet}
 use Rattle.probe.specs.declared.minima.Along.TheVariants.{Trail, Opposition}
 use Rattle.probe.specs.declared.minima.Minima.{Minima}
 use Rattle.probe.specs.Lettering.{lettered, raised}
-use Rattle.probe.specs.Probed.{Source, Four, Answers, answer_of, answers_of, and_then, along_by, minima_by, verdict_of, in_limits, probed_by, probed}
+use Rattle.probe.specs.Probed.{Source, Four, Answers, answer_of, answers_of, and_then, along_by, minima_of, minima_by, verdict_of, in_limits, probed_by, probed}
 use Rattle.probe.specs.Exchanged.{exchanged, Fit, FitAlong, FitAll}
 use Rattle.probe.specs.InRun.{Runs, StandsIssued, AllStand, answer_made, answers_made, InRangeAlong, InRangeOfAll, ProbeInRun}
 use Rattle.probe.proofs.Exchanging.{figure-equal, period-equal, same-exchanged}
@@ -87,6 +87,14 @@ judged false o f h = inl refl
 judged true o f (inl b) = inr (inl (b.0, ap (λ u. and_then (raised u) (λ k. Ok (f k))) b.1))
 judged true o f (inr a) = inr (inr (f a.0, ap (λ u. and_then (raised u) (λ k. Ok (f k))) a.1))
 
+-- a probe takes from the sheets what they answer, and nothing else
+minima-by-answers : {X C : Type 0} (m : Meaning X C) (s : Four X C) (e : Encounter X) (d : Direction) → minima_of m s e d ≡ minima_by (answers_of m s e) d
+minima-by-answers m s e Same = refl
+minima-by-answers m s e Opposite = refl
+
+by-answers : {X C : Type 0} (m : Meaning X C) (s : Four X C) (e : Encounter X) (a b : Fix) (p : Passing) → probed m s e a b p ≡ probed_by (answers_of m s e) a b p
+by-answers m s e a b p = ap (λ k. cond (in_limits a b p) (and_then (raised k) (λ x. Ok (verdict_of a b p x))) (Err Limits)) (minima-by-answers m s e p.direction)
+
 module _ {X C : Type 0} (m : Meaning X C) (law : Lawful m) where
   module _ {R : Type 0} (r : Results R) (eq : Equal r) (ks : List (Call X C R)) (s : Source X C R) (h : StandsIssued m r ks s) where
     looked : (e : Encounter X) → LookUpInRun m r ks e s.counts s.lists (answer_of m r s e)
@@ -118,8 +126,8 @@ module _ {X C : Type 0} (m : Meaning X C) (law : Lawful m) where
 
       pub probe-in-run : (a b : Fix) (p : Passing) (said : Result Verdict ProbeFault) → said ≡ probed m s e a b p → ProbeInRun m calls e a b p said
       probe-in-run a b p said q = record {
-        answer = q ∙ ap (λ t. probed_by t a b p) (answers e);
-        settled = λ i. subst Settled (sym q) (judged (in_limits a b p) (minima_by (answers_of m s e) p.direction) (verdict_of a b p)
+        answer = q ∙ by-answers m s e a b p ∙ ap (λ t. probed_by t a b p) (answers e);
+        settled = λ i. subst Settled (sym (q ∙ by-answers m s e a b p)) (judged (in_limits a b p) (minima_by (answers_of m s e) p.direction) (verdict_of a b p)
             (minima-barred (answers_of m s e) p.direction (decided figures figures-equal calls.v s.v h.v e i.long i.v) (decided figures figures-equal calls.l s.l h.l e i.long i.l) (decided-along p.direction i.long i.along)));
-        same_exchanged = λ i. sym (ap (λ t. probed_by t b a p) (answers (exchanged e))) ∙ same-exchanged m s e a b p (fit_all p.direction i) ∙ sym q;
+        same_exchanged = λ i. sym (by-answers m s (exchanged e) b a p ∙ ap (λ t. probed_by t b a p) (answers (exchanged e))) ∙ same-exchanged m s e a b p (fit_all p.direction i) ∙ sym q;
       }

@@ -60,12 +60,12 @@ pub record Answers : Type 0 where
   pub g : Result Figure SheetFault
   pub n : Result Period SheetFault
 
--- G for the same direction, N for opposite ones; the other is asked nothing
+-- the one along the way, by what the sheets answer
 abbrev pub along_by : Answers → Direction → Result Along Lettered
 along_by t Same = and_then (lettered G t.g) (λ x. Ok (Trail x))
 along_by t Opposite = and_then (lettered N t.n) (λ x. Ok (Opposition x))
 
--- V, then L, then the one along the way
+-- the three minima, by what the sheets answer
 abbrev pub minima_by : Answers → Direction → Result Minima Lettered
 minima_by t d =
     and_then (lettered V t.v) (λ v.
@@ -82,11 +82,17 @@ module _ {X C : Type 0} (m : Meaning X C) where
   abbrev pub answers_of : Four X C → Encounter X → Answers
   answers_of s e = record { v = answer_of figures s.v e; l = answer_of figures s.l e; g = answer_of figures s.g e; n = answer_of periods s.n e }
 
+  -- G for the same direction, N for opposite ones; the other is asked nothing
   abbrev pub along_of : Four X C → Encounter X → Direction → Result Along Lettered
-  along_of s e d = along_by (answers_of s e) d
+  along_of s e Same = and_then (lettered G (answer_of figures s.g e)) (λ x. Ok (Trail x))
+  along_of s e Opposite = and_then (lettered N (answer_of periods s.n e)) (λ x. Ok (Opposition x))
 
+  -- V, then L, then the one along the way
   abbrev pub minima_of : Four X C → Encounter X → Direction → Result Minima Lettered
-  minima_of s e d = minima_by (answers_of s e) d
+  minima_of s e d =
+      and_then (lettered V (answer_of figures s.v e)) (λ v.
+      and_then (lettered L (answer_of figures s.l e)) (λ l.
+      and_then (along_of s e d) (λ k. Ok (record { vertical = v; lateral = l; along = k }))))
 
 abbrev pub longitudinal_margin : Fix → Fix → Passing → Along → ℤ
 longitudinal_margin a b p (Trail x) = same_margin a.time b.time x.value
@@ -103,8 +109,9 @@ abbrev pub in_limits : Fix → Fix → Passing → Bool
 in_limits a b p = fix_in_limits a && (fix_in_limits b && passing_in_limits p)
 
 -- the limits first, then the look-ups, then the margins
+abbrev pub probed : {X C : Type 0} → Meaning X C → Four X C → Encounter X → Fix → Fix → Passing → Result Verdict ProbeFault
+probed m s e a b p = cond (in_limits a b p) (and_then (raised (minima_of m s e p.direction)) (λ k. Ok (verdict_of a b p k))) (Err Limits)
+
+-- the same, by what the sheets answer
 abbrev pub probed_by : Answers → Fix → Fix → Passing → Result Verdict ProbeFault
 probed_by t a b p = cond (in_limits a b p) (and_then (raised (minima_by t p.direction)) (λ k. Ok (verdict_of a b p k))) (Err Limits)
-
-abbrev pub probed : {X C : Type 0} → Meaning X C → Four X C → Encounter X → Fix → Fix → Passing → Result Verdict ProbeFault
-probed m s e a b p = probed_by (answers_of m s e) a b p
