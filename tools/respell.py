@@ -19,7 +19,7 @@ DECLARED = re.compile(
 )
 IMPORT = re.compile(r"^use ([\w.+'-]+)\.\{([^}]*)\}", re.M)
 WORD = re.compile(r"[A-Za-z_][\w'-]*")
-TEXT = re.compile(r'"(?:[^"\\]|\\.)*"')
+TEXT = re.compile(r"""b?"(?:[^"\\]|\\.)*"|b?'(?:[^'\\]|\\.)'""")
 
 
 def snake(name):

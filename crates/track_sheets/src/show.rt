@@ -11,7 +11,7 @@ use tracks::{LAST, Track, Tracks};
 
 fn letter(number: u8) -> char {
     if number <= LAST {
-        char::from(b'a' + number)
+        char::from(b'A' + number)
     } else {
         '?'
     }
