@@ -1,5 +1,5 @@
 -- A line that was read, with its calls. Assumes nothing.
-use Rattle.std.proofs.Common.{◌≡◌, ℕ, zero, suc, Bool, true, false, cond, leb, List, [], ◌∷◌, length, take, Ok, Err, Result, sym, refl, ap, ◌∙◌, ap₂, arith}
+use Rattle.std.proofs.Common.{◌≡◌, IsErrAnd, MatchResult, ℕ, zero, suc, Bool, true, false, cond, leb, List, [], ◌∷◌, length, take, Ok, Err, Result, sym, refl, ap, ◌∙◌, ap₂, arith}
 use Rattle.items.specs.declared.Counts.{Counts}
 use Rattle.results.specs.declared.figure.Figure.{Figure}
 use Rattle.page_faults.specs.declared.LineFault.{LineFault}
@@ -9,6 +9,12 @@ use Rattle.text.specs.declared.types.Placed.{Placed}
 use Rattle.pages.specs.Reads.{PageLists, Asked, calls_of, make_all}
 use Rattle.calling.specs.Goes.{follows}
 use Rattle.calling.specs.Goes.{line_goes}
+
+-- what was read, where a refusal would have been told by another
+pub said-is : {X E : Type 0} (o : Result X ℕ) (r : Result X E) (post : ℕ → E → Type 0) (said : X) → MatchResult o (λ x. r ≡ Ok x) (λ e. IsErrAnd r (post e)) → r ≡ Ok said → Ok said ≡ o
+said-is (Ok x) r post said c e = let i : said ≡ x = cc in ap Ok i
+said-is (Err b) (Ok x) post said c e = absurd c
+said-is (Err b) (Err f) post said c e = let z : ◌≡◌ {A = ℕ} 0 1 = cc in absurd (omega arith)
 
 -- a line that was read goes as its calls go
 pub line-goes : {X : Type 0} (x : Result X ℕ) (said : X) (line : X → Line) (ks : List Asked) (n n' : Counts) (l l' : PageLists) (r : Result (Unit {0}) LineFault) → Ok said ≡ x

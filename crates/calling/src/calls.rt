@@ -23,6 +23,7 @@ use sheet::states::Draft;
 use text::types::{Placed, Word};
 
 // The lists of a page's sheet.
+// They go beside a draft: a struct of both would have to say in each contract which two it borrows.
 pub type PageLists<'a> = Lists<'a, House, Figure>;
 
 // Fields that are not right in form or number, by the byte to tell.
@@ -40,10 +41,9 @@ fn ask(asked: Asked, draft: &mut Draft, lists: &mut PageLists<'_>) -> Result<(),
     ensures went { (ks : List AskedOf) → make_all (asked_of asked ∷ ks) draft.old.counts (lists_of lists.old) ≡ follows result draft.new.counts (lists_of lists.new) ks }
     ensures lent { SameLists lists.old lists.new }
 {
-    match draft.make(lists, asked.edit) {
-        Ok(()) => Ok(()),
-        Err(fault) => Err(asked.denied(fault)),
-    }
+    draft
+        .make(lists, asked.edit)
+        .map_err(|fault| asked.denied(fault))
 }
 
 // Sets the entries of a column, one a row, left to right. Never n is column 16 + n.
@@ -56,8 +56,8 @@ fn ask_entries(
     ensures went { make_all (cells_from column 0 said.now) draft.old.counts (lists_of lists.old) ≡ follows result draft.new.counts (lists_of lists.new) [] }
     ensures lent { SameLists lists.old lists.new }
 {
-    for i in 0..said.len() {
-        ask(Asked::entry(i, column, said[i]), draft, lists)?;
+    for (row, entry) in said.iter().enumerate() {
+        ask(Asked::entry(row, column, *entry), draft, lists)?;
     }
     Ok(())
 }
@@ -78,6 +78,7 @@ fn add(
 }
 
 // No entry at all, to be written over.
+// A buffer beside its count of rows, since nothing is on the heap.
 fn blank() -> [Placed; 16]
     ensures { length result ≡ 16 }
 {
@@ -97,10 +98,8 @@ fn quantity(
     ensures went { line_goes (onward (quantity_of scope (byte_of fields.old) (left fields.old)) (λ q. OkOf (quantity_line q))) draft.old.counts (lists_of lists.old) ≡ follows result draft.new.counts (lists_of lists.new) [] }
     ensures lent { SameLists lists.old lists.new }
 {
-    match quantity_line(fields, scope) {
-        Ok(said) => ask(Asked::quantity(said), draft, lists),
-        Err(byte) => Err(form(byte)),
-    }
+    let said = quantity_line(fields, scope).map_err(form)?;
+    ask(Asked::quantity(said), draft, lists)
 }
 
 // A line `row ..`.
@@ -112,10 +111,8 @@ fn row(
     ensures went { line_goes (line_of RowWord draft.old.counts.rows (byte_of fields.old) (left fields.old)) draft.old.counts (lists_of lists.old) ≡ follows result draft.new.counts (lists_of lists.new) [] }
     ensures lent { SameLists lists.old lists.new }
 {
-    match row_line(fields) {
-        Ok(said) => ask(Asked::row(said), draft, lists),
-        Err(byte) => Err(form(byte)),
-    }
+    let said = row_line(fields).map_err(form)?;
+    ask(Asked::row(said), draft, lists)
 }
 
 // A line `column ..`.
@@ -130,10 +127,8 @@ fn column(
     let rows = draft.counts().rows;
     let column = draft.counts().columns;
     let mut said = blank();
-    match column_line(fields, rows, &mut said) {
-        Ok(result) => add(Asked::column(result), column, &said[0..rows], draft, lists),
-        Err(byte) => Err(form(byte)),
-    }
+    let figure = column_line(fields, rows, &mut said).map_err(form)?;
+    add(Asked::column(figure), column, &said[..rows], draft, lists)
 }
 
 // The column of the next never.
@@ -155,10 +150,8 @@ fn never(
     let rows = draft.counts().rows;
     let column = next_never(draft);
     let mut said = blank();
-    match entries(fields, rows, &mut said) {
-        Ok(()) => add(Asked::never(), column, &said[0..rows], draft, lists),
-        Err(byte) => Err(form(byte)),
-    }
+    entries(fields, rows, &mut said).map_err(form)?;
+    add(Asked::never(), column, &said[..rows], draft, lists)
 }
 
 // A line `default ..`.
@@ -170,10 +163,8 @@ fn default(
     ensures went { line_goes (line_of DefaultWord draft.old.counts.rows (byte_of fields.old) (left fields.old)) draft.old.counts (lists_of lists.old) ≡ follows result draft.new.counts (lists_of lists.new) [] }
     ensures lent { SameLists lists.old lists.new }
 {
-    match default_line(fields) {
-        Ok(result) => ask(Asked::default(result), draft, lists),
-        Err(byte) => Err(form(byte)),
-    }
+    let figure = default_line(fields).map_err(form)?;
+    ask(Asked::default(figure), draft, lists)
 }
 
 // The fields of a line after its first word, and its calls.

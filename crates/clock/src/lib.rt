@@ -11,7 +11,7 @@ ghost use Rattle.kinds.specs.Meaning.{earlier, later};
 ghost use Rattle.clock.specs.Clocks.{clock, clock_rank, is_minute};
 ghost use Rattle.std.proofs.Common.{rules};
 
-use kinds::Kind;
+use kinds::{Kind, earlier_by};
 
 // How many minutes a day has.
 pub const MINUTES: u16 = 1440;
@@ -28,25 +28,11 @@ pub struct Window {
 pub struct Clock;
 
 // The minute t, if it is one of the day and after another.
+// One function for all kinds, passed their order and test, would make each call longer than this body.
 fn minute_after(after: u16, t: u16) -> Option<u16>
     ensures { result ≡ later clock_rank is_minute after t }
 {
-    if after < t && t < MINUTES {
-        Some(t)
-    } else {
-        None
-    }
-}
-
-// The sooner of two stops, or the one there is.
-fn sooner(a: Option<u16>, b: Option<u16>) -> Option<u16>
-    ensures { result ≡ earlier clock_rank a b }
-{
-    match (a, b) {
-        (None, o) => o,
-        (Some(x), None) => Some(x),
-        (Some(x), Some(y)) => Some(x.min(y)),
-    }
+    (after < t && t < MINUTES).then_some(t)
 }
 
 impl Kind for Clock {
@@ -79,9 +65,10 @@ impl Kind for Clock {
     }
 
     fn next_stop(cell: Window, after: u16) -> Option<u16> {
-        sooner(
+        earlier_by(
             minute_after(after, cell.start),
             minute_after(after, cell.end.saturating_add(1)),
+            |x, y| x <= y,
         )
     }
 }

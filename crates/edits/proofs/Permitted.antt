@@ -1,5 +1,5 @@
 -- An edit whose questions are all answered yes has room, and is stored as it should be. Assumes nothing.
-use Rattle.std.proofs.Common.{◌≡◌, ℕ, ◌-◌, ◌<◌, ◌≤◌, true, cond, ltb, length, IfOk, Some, None, Ok, Err, Option, Result, sym, refl, ap, ◌∙◌, subst, ap₂, arith}
+use Rattle.std.proofs.Common.{◌≡◌, ℕ, ◌-◌, ◌<◌, ◌≤◌, true, cond, ltb, length, Some, None, Ok, Err, Option, sym, refl, ap, ◌∙◌, subst, ap₂, arith}
 use Rattle.std.proofs.lemmas.Bool.{ltb-true, and_parts, cond_both}
 use Rattle.std.proofs.lemmas.Bool.Decides.{nat_tests}
 use Rattle.faults.specs.declared.SheetFault.{SheetFault}
@@ -17,10 +17,6 @@ use Rattle.edits.proofs.Counting.{Counted, counted}
 use Rattle.edits.specs.Meant.{edit_of, Room, told, given, unless, EditLeaves}
 use Rattle.edits.specs.declared.edit.Edit.{Edit as Given}
 use Rattle.edits.specs.declared.edit.Edit.TheVariants.{NameQuantity, AddRow, AddColumn, AddNever, SetCell, SetDefault, ClearDefault, StrikeColumn, StrikeNever}
-
-pub made-always : {X Y P : Type 0} (r : Result X Y) → P → IfOk r (λ _. P)
-made-always (Ok x) p = p
-made-always (Err y) p = tt
 
 below : (k n b : ℕ) → ltb k b ≡ true → k ≡ n → n < b
 below k n b t e = omega (arith, ltb-true k b t)

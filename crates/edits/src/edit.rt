@@ -9,7 +9,7 @@ pub enum Edit<V, C, R> {
     // A column that bears a result.
     AddColumn(R),
     AddNever,
-    // Never n is column 16 + n.
+    // Never n is column 16 + n. The row and the column stay two fields, since each use takes them apart.
     SetCell {
         row: usize,
         column: usize,

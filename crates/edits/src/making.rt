@@ -23,10 +23,8 @@ fn permitted<K: Kind, R: ResultKind>(
     ensures answer { Bounded counts → result ≡ told (edit_answer K.Kind.meaning R.ResultKind.results counts (lists_of lists.now) (edit_of edit)) }
     ensures few { OnOk result (Bounded counts) }
 {
-    match lists.checked(counts) {
-        Ok(view) => ask(&view, edit),
-        Err(fault) => Err(fault),
-    }
+    let view = lists.checked(counts)?;
+    ask(&view, edit)
 }
 
 // Makes an edit: how much of the lists is in use after it, or the first refusal, with nothing
@@ -41,11 +39,7 @@ pub fn make<K: Kind, R: ResultKind>(
     ensures few { IfOk result (λ n. Bounded n) }
     ensures lent { SameLists lists.old lists.new }
 {
-    match permitted(counts, lists, edit) {
-        Err(fault) => Err(fault),
-        Ok(()) => {
-            write(counts, lists, edit);
-            Ok(count(counts, &edit))
-        }
-    }
+    permitted(counts, lists, edit)?;
+    write(counts, lists, edit);
+    Ok(count(counts, &edit))
 }

@@ -12,55 +12,54 @@ use kinds::Kind;
 use lists::view::View;
 use results::ResultKind;
 
+// One question: the fault is that of a no.
+fn refuse_unless(yes: bool, fault: SheetFault) -> Result<(), SheetFault>
+    ensures { result ≡ told (first_no ((yes, fault) ∷ [])) }
+{
+    if yes { Ok(()) } else { Err(fault) }
+}
+
+fn ask_result<R: ResultKind>(res: R) -> Result<(), SheetFault>
+    ensures { result ≡ told (first_no ((R.ResultKind.results.lawful res, UnlawfulResult) ∷ [])) }
+{
+    refuse_unless(res.is_lawful(), SheetFault::UnlawfulResult)
+}
+
 fn ask_quantity<K: Kind, R: ResultKind>(
     view: &View<'_, K, R>,
     quantity: Quantity<K::Value>,
 ) -> Result<(), SheetFault>
     ensures { result ≡ told (first_no (asked K.Kind.meaning R.ResultKind.results (name_quantity quantity) (seen view.now))) }
 {
-    if view.quantity_count() >= 16 {
-        return Err(SheetFault::TooManyQuantities);
-    }
-    if !K::is_range(quantity.least, quantity.greatest) {
-        return Err(KindFault::Range.into());
-    }
-    Ok(())
+    refuse_unless(view.quantity_count() < 16, SheetFault::TooManyQuantities)?;
+    refuse_unless(
+        K::is_range(quantity.least, quantity.greatest),
+        KindFault::Range.into(),
+    )
 }
 
 fn ask_row<K: Kind, R: ResultKind>(view: &View<'_, K, R>, row: Row) -> Result<(), SheetFault>
     ensures { result ≡ told (first_no (asked K.Kind.meaning R.ResultKind.results (add_row row) (seen view.now))) }
 {
-    if view.row_count() >= 16 {
-        return Err(SheetFault::TooManyRows);
-    }
-    if row.quantity >= view.quantity_count() {
-        return Err(SheetFault::NoSuchQuantity);
-    }
-    if !view.row_is_lawful(row) {
-        return Err(SheetFault::WrongMode);
-    }
-    Ok(())
+    refuse_unless(view.row_count() < 16, SheetFault::TooManyRows)?;
+    refuse_unless(
+        row.quantity < view.quantity_count(),
+        SheetFault::NoSuchQuantity,
+    )?;
+    refuse_unless(view.row_is_lawful(row), SheetFault::WrongMode)
 }
 
 fn ask_column<K: Kind, R: ResultKind>(view: &View<'_, K, R>, res: R) -> Result<(), SheetFault>
     ensures { result ≡ told (first_no (asked K.Kind.meaning R.ResultKind.results (add_column res) (seen view.now))) }
 {
-    if view.column_count() >= 16 {
-        return Err(SheetFault::TooManyColumns);
-    }
-    if !res.is_lawful() {
-        return Err(SheetFault::UnlawfulResult);
-    }
-    Ok(())
+    refuse_unless(view.column_count() < 16, SheetFault::TooManyColumns)?;
+    ask_result(res)
 }
 
 fn ask_never<K: Kind, R: ResultKind>(view: &View<'_, K, R>) -> Result<(), SheetFault>
     ensures { result ≡ told (first_no (asked K.Kind.meaning R.ResultKind.results add_never (seen view.now))) }
 {
-    if view.never_count() >= 8 {
-        return Err(SheetFault::TooManyNevers);
-    }
-    Ok(())
+    refuse_unless(view.never_count() < 8, SheetFault::TooManyNevers)
 }
 
 // Is there such a column, or such a never? Never n is column 16 + n.
@@ -88,31 +87,14 @@ fn ask_cell<K: Kind, R: ResultKind>(
 ) -> Result<(), SheetFault>
     ensures { result ≡ told (first_no (asked K.Kind.meaning R.ResultKind.results (set_cell row column «entry») (seen view.now))) }
 {
-    if !has_place(view, row, column) {
-        return Err(SheetFault::NoSuchPlace);
-    }
-    if !view.accepts(row, entry) {
-        return Err(KindFault::Cell.into());
-    }
-    Ok(())
-}
-
-fn ask_default<R: ResultKind>(res: R) -> Result<(), SheetFault>
-    ensures { result ≡ told (first_no ((R.ResultKind.results.lawful res, UnlawfulResult) ∷ [])) }
-{
-    if !res.is_lawful() {
-        return Err(SheetFault::UnlawfulResult);
-    }
-    Ok(())
+    refuse_unless(has_place(view, row, column), SheetFault::NoSuchPlace)?;
+    refuse_unless(view.accepts(row, entry), KindFault::Cell.into())
 }
 
 fn ask_strike(count: usize) -> Result<(), SheetFault>
     ensures { result ≡ told (first_no ((nat_lt 0 count, NothingToStrike) ∷ [])) }
 {
-    if count == 0 {
-        return Err(SheetFault::NothingToStrike);
-    }
-    Ok(())
+    refuse_unless(count > 0, SheetFault::NothingToStrike)
 }
 
 // The questions of an edit.
@@ -128,7 +110,7 @@ pub(crate) fn ask<K: Kind, R: ResultKind>(
         Edit::AddColumn(result) => ask_column(view, result),
         Edit::AddNever => ask_never(view),
         Edit::SetCell { row, column, entry } => ask_cell(view, row, column, entry),
-        Edit::SetDefault(result) => ask_default(result),
+        Edit::SetDefault(result) => ask_result(result),
         Edit::ClearDefault => Ok(()),
         Edit::StrikeColumn => ask_strike(view.column_count()),
         Edit::StrikeNever => ask_strike(view.never_count()),

@@ -1,9 +1,10 @@
 // What each edit writes once it is accepted, and how much of the lists is in use after it.
-ghost use Rattle.std.specs.Prelude.{◌≡◌, ◌<◌};
+ghost use Rattle.std.specs.Prelude.{◌≡◌, ℕ, ◌+◌, ◌*◌, ◌<◌, map};
 ghost use Rattle.edits.specs.Meant.{Room, edit_of};
 ghost use Rattle.lists.specs.Held.{SameLists, lists_of};
+ghost use Rattle.std.specs.List.{range_with_len};
 ghost use Rattle.tables.specs.Calls.{add_column, add_row};
-ghost use Rattle.tables.specs.Storage.{Bounded, column_places, counts_after, lists_after, row_places, wiped};
+ghost use Rattle.tables.specs.Storage.{Bounded, counts_after, lists_after, wiped};
 
 use crate::edit::Edit;
 use items::{Counts, Entry, Row};
@@ -11,23 +12,14 @@ use kinds::Kind;
 use lists::lent::Lists;
 use lists::places::put;
 
-// Sets the 24 entries of a row to any.
-fn clear_row<C: Copy>(entries: &mut [Entry<C>], row: usize)
-    requires { row < 16 }
-    ensures { entries.new ≡ wiped entries.old (row_places row) }
+// Sets entries to any: as many as the count, each the step after the one before it.
+fn clear<C: Copy>(entries: &mut [Entry<C>], first: usize, step: usize, count: usize)
+    requires { (k : ℕ) → k < count → step * k + first < 768 }
+    ensures { entries.new ≡ wiped entries.old (map (λ k. step * k + first) (range_with_len 0 count)) }
 {
-    for j in 0..24 {
-        put(entries, 24 * row + j, Entry::Any);
-    }
-}
-
-// Sets the 16 entries of a column to any. Never n is column 16 + n.
-fn clear_column<C: Copy>(entries: &mut [Entry<C>], column: usize)
-    requires { column < 24 }
-    ensures { entries.new ≡ wiped entries.old (column_places column) }
-{
-    for i in 0..16 {
-        put(entries, 24 * i + column, Entry::Any);
+    // by index: after an adapter of `iter_mut` a proof knows nothing of the entries
+    for k in 0..count {
+        put(entries, step * k + first, Entry::Any);
     }
 }
 
@@ -38,7 +30,7 @@ fn write_row<K: Kind, R>(counts: Counts, lists: &mut Lists<'_, K, R>, row: Row)
     ensures lent { SameLists lists.old lists.new }
 {
     put(lists.rows, counts.rows, row);
-    clear_row(lists.entries, counts.rows);
+    clear(lists.entries, 24 * counts.rows, 1, 24);
 }
 
 // Adds a column with a result, its entries all any.
@@ -48,7 +40,7 @@ fn write_column<K: Kind, R: Copy>(counts: Counts, lists: &mut Lists<'_, K, R>, r
     ensures lent { SameLists lists.old lists.new }
 {
     put(lists.results, counts.columns, res);
-    clear_column(lists.entries, counts.columns);
+    clear(lists.entries, counts.columns, 24, 16);
 }
 
 // What an accepted edit writes.
@@ -65,12 +57,10 @@ pub(crate) fn write<K: Kind, R: Copy>(
         Edit::NameQuantity(quantity) => put(lists.quantities, counts.quantities, quantity),
         Edit::AddRow(row) => write_row(counts, lists, row),
         Edit::AddColumn(result) => write_column(counts, lists, result),
-        Edit::AddNever => clear_column(lists.entries, 16 + counts.nevers),
+        Edit::AddNever => clear(lists.entries, 16 + counts.nevers, 24, 16),
         Edit::SetCell { row, column, entry } => put(lists.entries, 24 * row + column, entry),
         Edit::SetDefault(result) => put(lists.results, 16, result),
-        Edit::ClearDefault => {}
-        Edit::StrikeColumn => {}
-        Edit::StrikeNever => {}
+        Edit::ClearDefault | Edit::StrikeColumn | Edit::StrikeNever => {}
     }
 }
 
@@ -85,11 +75,7 @@ pub(crate) fn count<V, C, R>(counts: Counts, edit: &Edit<V, C, R>) -> Counts
         Edit::AddRow(_) => after.rows += 1,
         Edit::AddColumn(_) => after.columns += 1,
         Edit::AddNever => after.nevers += 1,
-        Edit::SetCell {
-            row: _,
-            column: _,
-            entry: _,
-        } => {}
+        Edit::SetCell { .. } => {}
         Edit::SetDefault(_) => after.default = true,
         Edit::ClearDefault => after.default = false,
         Edit::StrikeColumn => after.columns -= 1,

@@ -1,6 +1,6 @@
 -- Issue after its first question. Assumes nothing.
-use Rattle.std.proofs.Common.{◌≡◌, ℕ, true, false, Err, Result, sym, ap, ◌∙◌, subst, ap₂}
-use Rattle.std.proofs.lemmas.Bool.{cond-true, cond-false}
+use Rattle.std.proofs.Common.{◌≡◌, ℕ, true, Err, Result, sym, ◌∙◌, subst, ap₂}
+use Rattle.std.proofs.lemmas.Bool.{cond-true}
 use Rattle.faults.specs.declared.SheetFault.{SheetFault}
 use Rattle.faults.specs.declared.SheetFault.TheVariants.{Lists as WrongLists}
 use Rattle.items.specs.declared.Counts.{Counts}
@@ -22,12 +22,6 @@ module _ {V C R : Type 0} (m : Meaning V C) (r : Results R) (n : Counts) (l : Li
 
   pub rightly : Lawful m → Equal r → in_order m r n l ≡ true → IssuedRightly m r (contents_of n l) lent
   rightly law equal h = issued-rightly m law r equal (contents_of n l) (accepted h) lent
-
-  pub refused : {f : SheetFault} → f ≡ WrongLists → in_order m r n l ≡ false → (Err f ≡ issue_answer m r n l lent) × (lent ≡ issue_writes m r n l lent)
-  refused is h = (
-    ap Err is ∙ sym (cond-false (in_order m r n l) (answered (issue m r (contents_of n l) lent)) (Err WrongLists) h),
-    sym (cond-false (in_order m r n l) (written m r (contents_of n l) lent (issue m r (contents_of n l) lent)) lent h),
-  )
 
   pub examined : (k : Counts) (s : Lists V C R) (t : Result ℕ SheetFault) (e : Encounter V) → k ≡ n → s ≡ l → in_order m r n l ≡ true
       → (Acceptable m r (contents_of k s) → Found m r (contents_of k s) lent (issue m r (contents_of k s) lent) t e) → (t ≡ issue_answer m r n l lent) × (e ≡ issue_writes m r n l lent)

@@ -28,8 +28,6 @@ pub fn examine<K: Kind, R: ResultKind>(
     ensures rightly { in_order K.Kind.meaning R.ResultKind.results counts (lists_of lists.now) ≡ true
         → IssuedRightly K.Kind.meaning R.ResultKind.results (contents_of counts (lists_of lists.now)) (shown at.old) }
 {
-    match lists.checked(counts) {
-        Ok(view) => find_fault(&view, at),
-        Err(fault) => Err(fault),
-    }
+    let view = lists.checked(counts)?;
+    find_fault(&view, at)
 }

@@ -18,28 +18,26 @@ use results::period::Period;
 use tables::{every_run_is_right, issue_answers_rightly};
 
 // What the definitions give for each worked sheet.
-pub fn worked_sheets_stand() -> u8
+pub fn worked_sheets_stand()
     ensures { Worked }
-{
-    0
-}
+{}
 
 // The law over runs, at the house kinds and figures.
-pub fn house_runs() -> u8
+pub fn house_runs()
     ensures { (calls : List (Call Value Cell Figure)) → EveryRun house figures calls }
 {
     every_run_is_right::<House, Figure>()
 }
 
 // The law over runs, at the house kinds and periods.
-pub fn house_runs_with_periods() -> u8
+pub fn house_runs_with_periods()
     ensures { (calls : List (Call Value Cell Period)) → EveryRun house periods calls }
 {
     every_run_is_right::<House, Period>()
 }
 
 // The vertical sheet answers every encounter in range, the same with the flights exchanged.
-pub fn vertical_is_faultless() -> u8
+pub fn vertical_is_faultless()
     ensures { Faultless house figures vertical_sheet }
 {
     issue_answers_rightly::<House, Figure>()

@@ -10,7 +10,7 @@ ghost use Rattle.faults.specs.declared.SheetFault.TheVariants.{Kind as OfKind, L
 use items::Side;
 
 // What a kind of condition does not accept.
-#[derive(Clone, Copy)]
+#[derive(Clone, Copy, PartialEq, Eq)]
 pub enum KindFault {
     // The two values make no lawful range.
     Range,
@@ -19,7 +19,7 @@ pub enum KindFault {
 }
 
 // Why a look-up gives no result.
-#[derive(Clone, Copy)]
+#[derive(Clone, Copy, PartialEq, Eq)]
 pub enum LookupFault {
     // The first needed value out of range: in whose list, and of which quantity.
     OutOfRange { side: Side, quantity: usize },
@@ -32,7 +32,7 @@ pub enum LookupFault {
 }
 
 // Why a call on a sheet is refused.
-#[derive(Clone, Copy)]
+#[derive(Clone, Copy, PartialEq, Eq)]
 pub enum SheetFault {
     // A list is not of right length, or an entry in use is one that no draft call would accept.
     Lists,
@@ -78,10 +78,7 @@ impl LookupFault {
         ensures { result ≡ lookup_number self }
     {
         match self {
-            LookupFault::OutOfRange {
-                side: _,
-                quantity: _,
-            } => 19,
+            LookupFault::OutOfRange { .. } => 19,
             LookupFault::Barred => 20,
             LookupFault::Gap => 21,
             LookupFault::Clash => 22,
@@ -110,10 +107,7 @@ impl SheetFault {
             SheetFault::TooManyEncounters => 14,
             SheetFault::AllBarred => 15,
             SheetFault::Gap => 16,
-            SheetFault::Clash {
-                lowest: _,
-                other: _,
-            } => 17,
+            SheetFault::Clash { .. } => 17,
             SheetFault::Asymmetry => 18,
             SheetFault::Lookup(fault) => fault.number(),
         }

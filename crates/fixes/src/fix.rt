@@ -1,6 +1,7 @@
 // Where each flight is, and when the two pass.
 ghost use Rattle.std.specs.Prelude.{◌≡◌};
-ghost use Rattle.fixes.specs.Limits.{between, fix_in_limits, passing_in_limits};
+ghost use Rattle.fixes.specs.Flights.{flights_exchanged, flights_in_limits};
+ghost use Rattle.fixes.specs.Limits.{fix_in_limits, passing_in_limits};
 
 // A flight: its level in hundreds of feet, its lateral position in tenths of a nautical mile, and
 // its time over the common point in seconds.
@@ -12,7 +13,7 @@ pub struct Fix {
 }
 
 // Do the flights go the same way, or one against the other?
-#[derive(Clone, Copy)]
+#[derive(Clone, Copy, Debug, PartialEq, Eq)]
 pub enum Direction {
     Same,
     Opposite,
@@ -26,11 +27,12 @@ pub struct Passing {
     pub t: i32,
 }
 
-// Is a number from one to another, both included?
-fn is_between(least: i32, x: i32, greatest: i32) -> bool
-    ensures { result ≡ between least x greatest }
-{
-    least <= x && x <= greatest
+// The flights A and B, and what they share.
+#[derive(Clone, Copy)]
+pub struct Flights {
+    pub a: Fix,
+    pub b: Fix,
+    pub passing: Passing,
 }
 
 impl Fix {
@@ -38,9 +40,9 @@ impl Fix {
     pub fn is_in_limits(self) -> bool
         ensures { result ≡ fix_in_limits self }
     {
-        is_between(0, self.level, 660)
-            && is_between(-100_000, self.lateral, 100_000)
-            && is_between(0, self.time, 172_799)
+        (0..=660).contains(&self.level)
+            && (-100_000..=100_000).contains(&self.lateral)
+            && (0..=172_799).contains(&self.time)
     }
 }
 
@@ -49,6 +51,26 @@ impl Passing {
     pub fn is_in_limits(self) -> bool
         ensures { result ≡ passing_in_limits self }
     {
-        is_between(0, self.time, 172_799) && is_between(0, self.t, 172_799)
+        (0..=172_799).contains(&self.time) && (0..=172_799).contains(&self.t)
+    }
+}
+
+impl Flights {
+    // Is each flight in its limits, and what they share?
+    pub fn is_in_limits(self) -> bool
+        ensures { result ≡ flights_in_limits self }
+    {
+        self.a.is_in_limits() && self.b.is_in_limits() && self.passing.is_in_limits()
+    }
+
+    // The same with A for B and B for A.
+    pub fn exchanged(self) -> Flights
+        ensures { result ≡ flights_exchanged self }
+    {
+        Flights {
+            a: self.b,
+            b: self.a,
+            passing: self.passing,
+        }
     }
 }

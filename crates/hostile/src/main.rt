@@ -8,7 +8,7 @@ use std::alloc::{AllocError, Global};
 // So many times the same bytes, and then an end.
 fn repeated(heap: Global, part: &[u8], times: usize, end: &[u8]) -> Result<Vec<u8>, AllocError> {
     let mut page = Vec::new(heap);
-    for _i in 0..times {
+    for _ in 0..times {
         page.extend_from_slice(part)?;
     }
     page.extend_from_slice(end)?;

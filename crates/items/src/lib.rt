@@ -3,14 +3,14 @@
 #![tactic(auto)]
 
 // Does each flight have a value of its own, or have both one together?
-#[derive(Clone, Copy)]
+#[derive(Clone, Copy, PartialEq, Eq)]
 pub enum Scope {
     Flight,
     Pair,
 }
 
 // Whose value it is: that of flight A, of flight B, or of the pair.
-#[derive(Clone, Copy)]
+#[derive(Clone, Copy, PartialEq, Eq)]
 pub enum Side {
     OfA,
     OfB,
@@ -27,7 +27,7 @@ pub struct Quantity<V> {
 }
 
 // How a row tests its quantity: A's value, B's, both, at least one of them, or the pair's.
-#[derive(Clone, Copy)]
+#[derive(Clone, Copy, PartialEq, Eq)]
 pub enum Mode {
     A,
     B,
@@ -43,7 +43,7 @@ pub struct Row {
     pub mode: Mode,
 }
 
-// An entry of a column: a cell, or any, which always holds.
+// An entry of a column: a cell, or any, which always holds. `None` would read as no entry.
 #[derive(Clone, Copy)]
 pub enum Entry<C> {
     Any,

@@ -44,13 +44,11 @@ fn read_page(rt: &HostRuntime) -> Result<Vec<u8>, Stop> {
 // Is a refusal to end with status 1?
 fn is_strict(rt: &HostRuntime) -> Result<bool, Stop> {
     let mut strict = false;
-    for (i, word) in env::args(rt)?.enumerate() {
-        if i > 0 {
-            if word.as_str() != "--strict" {
-                return Err(Stop::Usage);
-            }
-            strict = true;
+    for word in env::args(rt)?.skip(1) {
+        if word.as_str() != "--strict" {
+            return Err(Stop::Usage);
         }
+        strict = true;
     }
     Ok(strict)
 }

@@ -9,8 +9,8 @@ ghost use Rattle.joined.specs.JoinLaws.{joined-lawful};
 
 use kinds::Kind;
 
-// A value or a cell of the left kind or of the right one.
-#[derive(Clone, Copy)]
+// A value or a cell of the left kind or of the right one. `Result` would make one of them an error.
+#[derive(Clone, Copy, PartialEq, Eq, Debug)]
 pub enum Either<A, B> {
     Left(A),
     Right(B),
@@ -67,14 +67,8 @@ impl<L: Kind, R: Kind> Kind for Joined<L, R> {
 
     fn next_stop(cell: Self::Cell, after: Self::Value) -> Option<Self::Value> {
         match (cell, after) {
-            (Either::Left(c), Either::Left(v)) => match L::next_stop(c, v) {
-                Some(s) => Some(Either::Left(s)),
-                None => None,
-            },
-            (Either::Right(c), Either::Right(v)) => match R::next_stop(c, v) {
-                Some(s) => Some(Either::Right(s)),
-                None => None,
-            },
+            (Either::Left(c), Either::Left(v)) => L::next_stop(c, v).map(|s| Either::Left(s)),
+            (Either::Right(c), Either::Right(v)) => R::next_stop(c, v).map(|s| Either::Right(s)),
             _ => None,
         }
     }

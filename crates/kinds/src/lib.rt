@@ -8,6 +8,7 @@
 
 ghost use Rattle.std.specs.Prelude.{◌≡◌, nat_le};
 ghost use Rattle.kinds.specs.Meaning.{Meaning, Lawful, earlier};
+ghost use Rattle.kinds.specs.Stops.{EarlierBy};
 
 // A kind of condition.
 pub trait Kind {
@@ -42,19 +43,24 @@ pub trait Kind {
     ghost lawful: { Lawful meaning };
 }
 
-// The earlier of two stops, or the one there is.
+// The earlier of two stops by a test of which is not after the other, or the one there is.
+pub fn earlier_by<V: Copy, F: FnOnce(V, V) -> bool>(
+    a: Option<V>,
+    b: Option<V>,
+    at_or_before: F,
+) -> Option<V>
+    requires { F.IsAlwaysCallable at_or_before }
+    ensures { EarlierBy (F.post at_or_before) a b result }
+{
+    match (a, b) {
+        (Some(x), Some(y)) => Some(if at_or_before(x, y) { x } else { y }),
+        _ => a.or(b),
+    }
+}
+
+// The earlier of two stops of a kind, or the one there is.
 pub fn earlier_stop<K: Kind>(a: Option<K::Value>, b: Option<K::Value>) -> Option<K::Value>
     ensures { result ≡ earlier K.Kind.meaning.rank a b }
 {
-    match (a, b) {
-        (None, o) => o,
-        (Some(x), None) => Some(x),
-        (Some(x), Some(y)) => {
-            if K::at_or_before(x, y) {
-                Some(x)
-            } else {
-                Some(y)
-            }
-        }
-    }
+    earlier_by(a, b, |x, y| K::at_or_before(x, y))
 }

@@ -7,7 +7,7 @@ mod tests {
     use clock::{Clock, Window};
     use faults::{KindFault, LookupFault, SheetFault};
     use house::{
-        House, Value, band_cell, measure_value, minute_value, name_value, names_cell, window_cell,
+        House, band_cell, measure_value, minute_value, name_value, names_cell, window_cell,
     };
     use items::Side;
     use kinds::{Kind, earlier_stop};
@@ -171,15 +171,6 @@ mod tests {
         }
     }
 
-    // Are both none, or the same value?
-    fn alike(a: Option<Value>, b: Option<Value>) -> bool {
-        match (a, b) {
-            (None, None) => true,
-            (Some(x), Some(y)) => House::at_or_before(x, y) && House::at_or_before(y, x),
-            _ => false,
-        }
-    }
-
     #[test]
     fn joined_order_and_ranges(rt: HostRuntime) {
         for (a, b, ordered, range) in [
@@ -251,7 +242,7 @@ mod tests {
             (window, name_value(0), false, None),
         ] {
             assert_eq!(rt; House::holds(cell, at), holds);
-            assert!(rt; alike(House::next_stop(cell, at), stop));
+            assert_eq!(rt; House::next_stop(cell, at), stop);
         }
     }
 

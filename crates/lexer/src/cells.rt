@@ -4,7 +4,6 @@ ghost use Rattle.text.specs.Cells.{dots as dots_of, band as band_of, window as w
 
 use crate::numbers::{measure, number, time};
 use crate::parts::{byte_at, until};
-use crate::words::is;
 use clock::Window;
 use house::{Cell, band_cell, names_cell, window_cell};
 use items::Entry;
@@ -17,10 +16,7 @@ fn dots(bytes: &[u8]) -> Option<usize>
     ensures within { IfSome result (λ dot. dot + 2 ≤ length bytes.now) }
 {
     let dot = until(bytes, 0, b'.');
-    if dot + 1 >= bytes.len() {
-        return None;
-    }
-    match bytes[dot + 1] as char {
+    match byte_at(bytes, dot + 1) as char {
         '.' => Some(dot),
         _ => None,
     }
@@ -32,7 +28,7 @@ fn band(inside: bool, bytes: &[u8]) -> Option<Cell>
 {
     let dot = dots(bytes)?;
     let lo = measure(&bytes[0..dot])?;
-    let hi = measure(&bytes[dot + 2..bytes.len()])?;
+    let hi = measure(&bytes[dot + 2..])?;
     Some(band_cell(Band { lo, hi, inside }))
 }
 
@@ -45,8 +41,8 @@ fn window(bytes: &[u8]) -> Option<Cell>
     }
     match bytes[5] as char {
         '-' => {
-            let start = time(&bytes[0..5])?;
-            let end = time(&bytes[6..11])?;
+            let start = time(&bytes[..5])?;
+            let end = time(&bytes[6..])?;
             Some(window_cell(Window { start, end }))
         }
         _ => None,
@@ -58,29 +54,22 @@ fn member(from: u32, part: &[u8]) -> Option<u32>
     ensures value { result ≡ member_of from part.now }
     ensures within { IfSome result (λ n. (from ≤ n) × (n < 32)) }
 {
-    let n = number(part)?;
-    if n < from || n > 31 {
-        return None;
-    }
-    Some(n)
+    number(part).filter(|n| from <= *n && *n < 32)
 }
 
 // The set of names that a list of ascending ones is, one bit a name.
 fn listed(bytes: &[u8]) -> Option<u32>
     ensures { result ≡ listed_of bytes.now }
 {
-    if bytes.len() == 0 {
+    if bytes.is_empty() {
         return Some(0);
     }
     let mut bits: u32 = 0;
     let mut from: u32 = 0;
-    let mut at = 0;
-    while at <= bytes.len() {
-        let to = until(bytes, at, b',');
-        let n = member(from, &bytes[at..to])?;
-        bits = bits + (1 << n);
+    for part in bytes.split(|b| *b == b',') {
+        let n = member(from, part)?;
+        bits += 1 << n;
         from = n + 1;
-        at = to + 1;
     }
     Some(bits)
 }
@@ -89,14 +78,11 @@ fn listed(bytes: &[u8]) -> Option<u32>
 fn names(bytes: &[u8]) -> Option<Cell>
     ensures { result ≡ names_of bytes.now }
 {
-    if bytes.len() == 0 {
+    let [list @ .., last] = bytes else {
         return None;
-    }
-    let end = bytes.len() - 1;
-    match bytes[end] as char {
-        '}' => Some(names_cell(NameSet {
-            bits: listed(&bytes[0..end])?,
-        })),
+    };
+    match *last as char {
+        '}' => listed(list).map(|bits| names_cell(NameSet { bits })),
         _ => None,
     }
 }
@@ -115,12 +101,12 @@ fn unmarked(field: &[u8]) -> Option<Cell>
 fn cell(field: &[u8]) -> Option<Cell>
     ensures { result ≡ cell_of field.now }
 {
-    if field.len() == 0 {
+    let [first, rest @ ..] = field else {
         return None;
-    }
-    match field[0] as char {
-        '!' => band(false, &field[1..field.len()]),
-        '{' => names(&field[1..field.len()]),
+    };
+    match *first as char {
+        '!' => band(false, rest),
+        '{' => names(rest),
         _ => unmarked(field),
     }
 }
@@ -129,8 +115,8 @@ fn cell(field: &[u8]) -> Option<Cell>
 pub fn entry(field: &[u8]) -> Option<Entry<Cell>>
     ensures { result ≡ entry_of field.now }
 {
-    if is(field, b".") {
-        return Some(Entry::Any);
+    match field {
+        b"." => Some(Entry::Any),
+        _ => cell(field).map(Entry::Cell),
     }
-    Some(Entry::Cell(cell(field)?))
 }

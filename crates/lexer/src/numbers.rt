@@ -3,13 +3,10 @@ ghost use Rattle.std.specs.Prelude.{◌≡◌, ◌<◌, ◌≤◌, length, IfSom
 ghost use Rattle.text.specs.Numbers.{digit as digit_of, number as number_of, measure as measure_of, time as time_of, minutes as minutes_of, figures, below, above};
 
 // The digit that a byte is.
-fn digit(b: u8) -> Option<u8>
+fn digit(b: u8) -> Option<u32>
     ensures { result ≡ digit_of b }
 {
-    match b {
-        b'0'..=b'9' => Some(b - b'0'),
-        _ => None,
-    }
+    (b as char).to_digit(10)
 }
 
 // The number that a few digits write.
@@ -20,10 +17,7 @@ fn digits(field: &[u8]) -> Option<u32>
 {
     let mut n: u32 = 0;
     for b in field {
-        let Some(d) = digit(*b) else {
-            return None;
-        };
-        n = n * 10 + d as u32;
+        n = n * 10 + digit(*b)?;
     }
     Some(n)
 }
@@ -46,10 +40,7 @@ fn negative(n: Option<u32>) -> Option<i32>
     requires { IfSome n (λ n. n < 10000000) }
     ensures { result ≡ below n }
 {
-    match n {
-        Some(n) if n > 0 => Some(-(n as i32)),
-        _ => None,
-    }
+    n.filter(|n| *n > 0).map(|n| -(n as i32))
 }
 
 // What a number with no minus gives.
@@ -57,10 +48,7 @@ fn positive(n: Option<u32>) -> Option<i32>
     requires { IfSome n (λ n. n < 10000000) }
     ensures { result ≡ above n }
 {
-    match n {
-        Some(n) => Some(n as i32),
-        None => None,
-    }
+    n.map(|n| n as i32)
 }
 
 // The measure or the figure that a field is: a number, or a minus before one that is not 0.
@@ -80,8 +68,8 @@ pub fn measure(field: &[u8]) -> Option<i32>
 fn minutes(hour: Option<u32>, minute: Option<u32>) -> Option<u16>
     ensures { result ≡ minutes_of hour minute }
 {
-    match (hour, minute) {
-        (Some(h), Some(m)) if h < 24 && m < 60 => Some((60 * h + m) as u16),
+    match (hour?, minute?) {
+        (h, m) if h < 24 && m < 60 => Some((60 * h + m) as u16),
         _ => None,
     }
 }
@@ -94,7 +82,7 @@ pub fn time(field: &[u8]) -> Option<u16>
         return None;
     }
     match field[2] as char {
-        ':' => minutes(digits(&field[0..2]), digits(&field[3..5])),
+        ':' => minutes(digits(&field[..2]), digits(&field[3..])),
         _ => None,
     }
 }

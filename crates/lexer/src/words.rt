@@ -12,33 +12,20 @@ use text::types::{KindWord, Section, Word};
 pub fn is(field: &[u8], word: &[u8]) -> bool
     ensures { result ≡ bytes_eq field.now word.now }
 {
-    if field.len() != word.len() {
-        return false;
-    }
-    for i in 0..word.len() {
-        if field[i] != word[i] {
-            return false;
-        }
-    }
-    true
+    field == word
 }
 
 // The mode that a field names.
 pub fn mode(field: &[u8]) -> Option<Mode>
     ensures { result ≡ mode_of field.now }
 {
-    if is(field, b"A") {
-        Some(Mode::A)
-    } else if is(field, b"B") {
-        Some(Mode::B)
-    } else if is(field, b"both") {
-        Some(Mode::Both)
-    } else if is(field, b"either") {
-        Some(Mode::Either)
-    } else if is(field, b"pair") {
-        Some(Mode::Pair)
-    } else {
-        None
+    match field {
+        b"A" => Some(Mode::A),
+        b"B" => Some(Mode::B),
+        b"both" => Some(Mode::Both),
+        b"either" => Some(Mode::Either),
+        b"pair" => Some(Mode::Pair),
+        _ => None,
     }
 }
 
@@ -46,14 +33,11 @@ pub fn mode(field: &[u8]) -> Option<Mode>
 pub fn kind(field: &[u8]) -> Option<KindWord>
     ensures { result ≡ kind_of field.now }
 {
-    if is(field, b"measure") {
-        Some(KindWord::Measure)
-    } else if is(field, b"names") {
-        Some(KindWord::Names)
-    } else if is(field, b"clock") {
-        Some(KindWord::Clock)
-    } else {
-        None
+    match field {
+        b"measure" => Some(KindWord::Measure),
+        b"names" => Some(KindWord::Names),
+        b"clock" => Some(KindWord::Clock),
+        _ => None,
     }
 }
 
@@ -62,9 +46,9 @@ pub fn value(kind: KindWord, field: &[u8]) -> Option<Value>
     ensures { result ≡ value_of kind field.now }
 {
     match kind {
-        KindWord::Measure => Some(measure_value(measure(field)?)),
-        KindWord::Names => Some(name_value(number(field)?)),
-        KindWord::Clock => Some(minute_value(time(field)?)),
+        KindWord::Measure => measure(field).map(measure_value),
+        KindWord::Names => number(field).map(name_value),
+        KindWord::Clock => time(field).map(minute_value),
     }
 }
 
@@ -72,22 +56,15 @@ pub fn value(kind: KindWord, field: &[u8]) -> Option<Value>
 pub fn first_word(field: &[u8]) -> Option<Word>
     ensures { result ≡ first_word field.now }
 {
-    if is(field, b"flight") {
-        Some(Word::Flight)
-    } else if is(field, b"pair") {
-        Some(Word::Pair)
-    } else if is(field, b"row") {
-        Some(Word::Row)
-    } else if is(field, b"column") {
-        Some(Word::Column)
-    } else if is(field, b"never") {
-        Some(Word::Never)
-    } else if is(field, b"default") {
-        Some(Word::Default)
-    } else if is(field, b"end") {
-        Some(Word::End)
-    } else {
-        None
+    match field {
+        b"flight" => Some(Word::Flight),
+        b"pair" => Some(Word::Pair),
+        b"row" => Some(Word::Row),
+        b"column" => Some(Word::Column),
+        b"never" => Some(Word::Never),
+        b"default" => Some(Word::Default),
+        b"end" => Some(Word::End),
+        _ => None,
     }
 }
 

@@ -1,32 +1,19 @@
 // The fields of a line in turn. One that is missing starts nowhere, so byte 1 is told of it; a wrong
 // one tells the byte at which it starts.
-ghost use Rattle.std.specs.Prelude.{◌≡◌, ◌+◌, ◌≤◌, [], ◌∷◌, length, take, drop, MatchOption};
-ghost use Rattle.text.specs.Fields.{parted, up_to};
+ghost use Rattle.std.specs.Prelude.{◌≡◌, ℕ, ◌+◌, ◌≤◌, List, [], ◌∷◌, length, take, Option, MatchOption};
+ghost use Rattle.std.specs.Fn.{FnOnceReturnsAt};
+ghost use Rattle.text.specs.Fields.{parted};
 ghost use Rattle.text.specs.Forms.{first, none, rest, rest_at};
-ghost use Rattle.text.specs.Numbers.{number as number_of, measure as measure_of};
-ghost use Rattle.text.specs.Words.{mode as mode_of, kind as kind_of, value as value_of};
-ghost use Rattle.text.specs.Cells.{entry as entry_of};
 ghost use Rattle.text.specs.Lines.{result as result_of, placed as placed_of};
 ghost use Rattle.lines.specs.Left.{left, byte as byte_of};
 
 use crate::cursor::Fields;
 use crate::pages::at_most;
-use house::{Cell, Value};
-use items::{Entry, Mode};
 use lexer::cells::entry;
-use lexer::numbers::{measure, number};
+use lexer::numbers::measure;
 use lexer::parts::until;
-use lexer::words::{kind, mode, value};
 use results::figure::Figure;
-use text::types::{KindWord, Placed};
-
-// The place of the space after the field that starts at `from`, or the line's end.
-fn field_end(line: &[u8], from: usize) -> usize
-    requires { from ≤ length line.now }
-    ensures { (result ≡ from + up_to 32 (drop from line.now)) × (result ≤ length line.now) }
-{
-    until(line, from, b' ')
-}
+use text::types::Placed;
 
 impl<'a> Fields<'a> {
     // The fields of a line, of which no more is read than a page may have.
@@ -58,18 +45,19 @@ impl<'a> Fields<'a> {
             (λ f. self.new.at ≡ self.old.at + length f.now + 1) }
         ensures line { self.new.line.now ≡ self.old.line.now }
     {
-        if self.at > self.line.len() {
-            return None;
-        }
-        let from = self.at;
-        let to = field_end(self.line, from);
-        self.at = to + 1;
-        Some(&self.line[from..to])
+        let rest = self.line.get(self.at..)?;
+        let end = until(rest, 0, b' ');
+        self.at += end + 1;
+        Some(&rest[..end])
     }
 
-    // The next field, which is to be a number, or the byte to tell.
-    pub(crate) fn number(&mut self) -> Result<u32, usize>
-        ensures value { result ≡ first number_of (byte_of self.old) (left self.old) }
+    // The next field, which is to be of a form, or the byte to tell.
+    // The error is the byte alone, as the forms of a line define it.
+    pub(crate) fn next_as<T, F: FnOnce(&[u8]) -> Option<T>>(&mut self, read: F) -> Result<T, usize>
+        ghost form: { List ℕ → Option T }
+        requires can { F.IsAlwaysCallable read }
+        requires reads { (f : List ℕ) (r : Option T) → FnOnceReturnsAt F.FnOnce read f r → r ≡ form f }
+        ensures value { result ≡ first form (byte_of self.old) (left self.old) }
         ensures left { left self.new ≡ rest (left self.old) }
         ensures byte { byte_of self.new ≡ rest_at (byte_of self.old) (left self.old) }
     {
@@ -77,72 +65,7 @@ impl<'a> Fields<'a> {
         let Some(field) = self.next_field() else {
             return Err(1);
         };
-        number(field).ok_or(byte)
-    }
-
-    // The next field, which is to be a mode, or the byte to tell.
-    pub(crate) fn mode(&mut self) -> Result<Mode, usize>
-        ensures value { result ≡ first mode_of (byte_of self.old) (left self.old) }
-        ensures left { left self.new ≡ rest (left self.old) }
-        ensures byte { byte_of self.new ≡ rest_at (byte_of self.old) (left self.old) }
-    {
-        let byte = self.byte();
-        let Some(field) = self.next_field() else {
-            return Err(1);
-        };
-        mode(field).ok_or(byte)
-    }
-
-    // The next field, which is to be the word for a kind, or the byte to tell.
-    pub(crate) fn kind(&mut self) -> Result<KindWord, usize>
-        ensures value { result ≡ first kind_of (byte_of self.old) (left self.old) }
-        ensures left { left self.new ≡ rest (left self.old) }
-        ensures byte { byte_of self.new ≡ rest_at (byte_of self.old) (left self.old) }
-    {
-        let byte = self.byte();
-        let Some(field) = self.next_field() else {
-            return Err(1);
-        };
-        kind(field).ok_or(byte)
-    }
-
-    // The next field, which is to be a value of a kind, or the byte to tell.
-    pub(crate) fn value(&mut self, kind: KindWord) -> Result<Value, usize>
-        ensures value { result ≡ first (value_of kind) (byte_of self.old) (left self.old) }
-        ensures left { left self.new ≡ rest (left self.old) }
-        ensures byte { byte_of self.new ≡ rest_at (byte_of self.old) (left self.old) }
-    {
-        let byte = self.byte();
-        let Some(field) = self.next_field() else {
-            return Err(1);
-        };
-        value(kind, field).ok_or(byte)
-    }
-
-    // The next field, which is to be a measure or a figure, or the byte to tell.
-    pub(crate) fn measure(&mut self) -> Result<i32, usize>
-        ensures value { result ≡ first measure_of (byte_of self.old) (left self.old) }
-        ensures left { left self.new ≡ rest (left self.old) }
-        ensures byte { byte_of self.new ≡ rest_at (byte_of self.old) (left self.old) }
-    {
-        let byte = self.byte();
-        let Some(field) = self.next_field() else {
-            return Err(1);
-        };
-        measure(field).ok_or(byte)
-    }
-
-    // The next field, which is to be an entry, or the byte to tell.
-    pub(crate) fn entry(&mut self) -> Result<Entry<Cell>, usize>
-        ensures value { result ≡ first entry_of (byte_of self.old) (left self.old) }
-        ensures left { left self.new ≡ rest (left self.old) }
-        ensures byte { byte_of self.new ≡ rest_at (byte_of self.old) (left self.old) }
-    {
-        let byte = self.byte();
-        let Some(field) = self.next_field() else {
-            return Err(1);
-        };
-        entry(field).ok_or(byte)
+        read(field).ok_or(byte)
     }
 
     // The next field, which is to be a result, or the byte to tell.
@@ -151,8 +74,7 @@ impl<'a> Fields<'a> {
         ensures left { left self.new ≡ rest (left self.old) }
         ensures byte { byte_of self.new ≡ rest_at (byte_of self.old) (left self.old) }
     {
-        let value = self.measure()?;
-        Ok(Figure { value })
+        self.next_as(measure).map(|value| Figure { value })
     }
 
     // The next field, which is to be an entry, with its place, or the byte to tell.
@@ -162,7 +84,7 @@ impl<'a> Fields<'a> {
         ensures byte { byte_of self.new ≡ rest_at (byte_of self.old) (left self.old) }
     {
         let byte = self.byte();
-        let entry = self.entry()?;
+        let entry = self.next_as(entry)?;
         Ok(Placed { entry, byte })
     }
 

@@ -6,6 +6,8 @@ ghost use Rattle.lines.specs.Left.{left, byte};
 
 use crate::cursor::Fields;
 use items::{Quantity, Row, Scope};
+use lexer::numbers::number;
+use lexer::words::{kind, mode, value};
 use results::figure::Figure;
 use text::types::{Placed, QuantityLine, RowLine};
 
@@ -13,10 +15,10 @@ use text::types::{Placed, QuantityLine, RowLine};
 pub fn quantity_line(fields: &mut Fields<'_>, scope: Scope) -> Result<QuantityLine, usize>
     ensures { result ≡ quantity_of scope (byte fields.old) (left fields.old) }
 {
-    let kind = fields.kind()?;
+    let kind = fields.next_as(kind)?;
     let least_byte = fields.byte();
-    let least = fields.value(kind)?;
-    let greatest = fields.value(kind)?;
+    let least = fields.next_as(|field| value(kind, field))?;
+    let greatest = fields.next_as(|field| value(kind, field))?;
     fields.done()?;
     let quantity = Quantity {
         scope,
@@ -34,9 +36,9 @@ pub fn row_line(fields: &mut Fields<'_>) -> Result<RowLine, usize>
     ensures { result ≡ row_of (byte fields.old) (left fields.old) }
 {
     let quantity_byte = fields.byte();
-    let quantity = fields.number()? as usize;
+    let quantity = fields.next_as(number)? as usize;
     let mode_byte = fields.byte();
-    let mode = fields.mode()?;
+    let mode = fields.next_as(mode)?;
     fields.done()?;
     let row = Row { quantity, mode };
     Ok(RowLine {
@@ -54,8 +56,8 @@ pub fn entries(fields: &mut Fields<'_>, count: usize, out: &mut [Placed; 16]) ->
     if count > out.len() {
         return Err(1);
     }
-    for i in 0..count {
-        out[i] = fields.placed()?;
+    for place in out[..count].iter_mut() {
+        *place = fields.placed()?;
     }
     fields.done()
 }

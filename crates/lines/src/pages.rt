@@ -1,20 +1,12 @@
 // The lines of a page in turn.
-ghost use Rattle.std.specs.Prelude.{◌≡◌, ◌+◌, ◌≤◌, [], ◌∷◌, length, take, drop, IfSome, MatchOption};
+ghost use Rattle.std.specs.Prelude.{◌≡◌, ◌+◌, ◌-◌, ◌≤◌, [], ◌∷◌, length, take, drop, is_some, IfSome, MatchOption};
+ghost use Rattle.std.specs.List.{between};
 ghost use Rattle.text.specs.Fields.{up_to};
 ghost use Rattle.text.specs.Pages.{lined, closed};
 ghost use Rattle.lines.specs.Left.{ahead};
 
 use crate::reader::{MOST_BYTES, Reader};
 use lexer::parts::until;
-use lexer::words::is;
-
-// The place of the byte 10 that ends the line that starts at `from`, or the text's end.
-fn line_end(page: &[u8], from: usize) -> usize
-    requires { from ≤ length page.now }
-    ensures { (result ≡ from + up_to 10 (drop from page.now)) × (result ≤ length page.now) }
-{
-    until(page, from, b'\n')
-}
 
 // As much of a text as a page may have.
 pub(crate) fn at_most(text: &[u8]) -> &[u8]
@@ -22,10 +14,15 @@ pub(crate) fn at_most(text: &[u8]) -> &[u8]
     ensures whole { length text.now ≤ 65536 → result.now ≡ text.now }
     ensures short { length result.now ≤ 65536 }
 {
-    if text.len() > MOST_BYTES {
-        return &text[0..MOST_BYTES];
-    }
-    text
+    &text[..MOST_BYTES.min(text.len())]
+}
+
+// Where the line that starts at `from` ends: at the next byte 10, or with the text.
+fn line_end(page: &[u8], from: usize) -> usize
+    requires { from ≤ length page.now }
+    ensures { (result ≡ from + up_to 10 (drop from page.now)) × (result ≤ length page.now) }
+{
+    until(page, from, b'\n')
 }
 
 impl<'a> Reader<'a> {
@@ -65,13 +62,14 @@ impl<'a> Reader<'a> {
     }
 }
 
-// Whether the last line is `end`, with its byte 10.
-pub fn is_closed(page: &[u8]) -> bool
-    ensures { result ≡ closed page.now }
+// The page without its last line, where that is `end` with its byte 10.
+pub fn without_end(page: &[u8]) -> Option<&[u8]>
+    ensures closed { is_some result ≡ closed page.now }
+    ensures lines { IfSome result (λ lines. lines.now ≡ between 0 (length page.now - 4) page.now) }
 {
-    let n = page.len();
-    if n < 4 {
-        return false;
+    let lines = page.strip_suffix(b"end\n")?;
+    match lines {
+        [.., last] if *last != b'\n' => None,
+        _ => Some(lines),
     }
-    is(&page[n - 4..n], b"end\n") && (n == 4 || page[n - 5] == b'\n')
 }

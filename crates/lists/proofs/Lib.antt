@@ -1,1 +1,4 @@
+pub mod Chains
+pub mod First
 pub mod Left
+pub mod Rowwise

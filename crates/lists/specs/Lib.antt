@@ -1,2 +1,2 @@
 pub mod Held
-pub mod Rest
+pub mod Rows

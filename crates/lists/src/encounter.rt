@@ -5,7 +5,7 @@ ghost use Rattle.lists.specs.Held.{SameShowing, encounter_of, shown};
 ghost use Rattle.tables.specs.Contents.{put as put_of, value_at, whole};
 
 use crate::lent::{Encounter, Showing};
-use crate::places::{nth, put};
+use crate::places::put;
 use items::Side;
 
 impl<'a, V> Encounter<'a, V> {
@@ -33,11 +33,12 @@ impl<'a, V: Copy> Encounter<'a, V> {
     pub fn value(&self, side: Side, quantity: usize) -> Option<V>
         ensures { result ≡ value_at (encounter_of self.now) side quantity }
     {
-        match side {
-            Side::OfA => nth(self.a, quantity),
-            Side::OfB => nth(self.b, quantity),
-            Side::OfPair => nth(self.pair, quantity),
-        }
+        let values = match side {
+            Side::OfA => self.a,
+            Side::OfB => self.b,
+            Side::OfPair => self.pair,
+        };
+        values.get(quantity).copied()
     }
 }
 

@@ -8,7 +8,6 @@ ghost use Rattle.tables.specs.Storage.{Bounded, column_of, in_order, right_lengt
 ghost use Rattle.tables.specs.Words.{all_of};
 
 use crate::lent::Lists;
-use crate::places::nth_of;
 use crate::view::View;
 use faults::SheetFault;
 use items::{Counts, Entry, Mode, Quantity, Row, Scope};
@@ -19,37 +18,32 @@ use results::ResultKind;
 fn mode_fits(mode: Mode, scope: Scope) -> bool
     ensures { result ≡ mode_fits mode scope }
 {
-    match (mode, scope) {
-        (Mode::Pair, Scope::Pair) => true,
-        (Mode::Pair, Scope::Flight) => false,
-        (_, Scope::Flight) => true,
-        (_, Scope::Pair) => false,
-    }
+    matches!(mode, Mode::Pair) == matches!(scope, Scope::Pair)
 }
 
 impl<'a, K: Kind, R: ResultKind> View<'a, K, R> {
-    // How many quantities, rows, columns and nevers the sheet has.
+    // How many quantities the sheet has.
     pub fn quantity_count(&self) -> usize
         ensures { result ≡ length (seen self.now).quantities }
     {
-        self.counts.quantities
+        self.quantities_in_use().len()
     }
 
     // How many rows the sheet has.
     pub fn row_count(&self) -> usize
         ensures { result ≡ length (seen self.now).rows }
     {
-        self.counts.rows
+        self.rows_in_use().len()
     }
 
     // How many columns bear a result.
     pub fn column_count(&self) -> usize
         ensures { result ≡ length (seen self.now).columns }
     {
-        self.counts.columns
+        self.results_in_use().len()
     }
 
-    // How many nevers the sheet has.
+    // How many nevers the sheet has. No list holds one item a never, so this reads the count.
     pub fn never_count(&self) -> usize
         ensures { result ≡ length (seen self.now).nevers }
     {
@@ -60,24 +54,22 @@ impl<'a, K: Kind, R: ResultKind> View<'a, K, R> {
     pub fn quantity(&self, i: usize) -> Option<Quantity<K::Value>>
         ensures { result ≡ slice_get (seen self.now).quantities i }
     {
-        nth_of(self.quantities, self.counts.quantities, i)
+        self.quantities_in_use().get(i).copied()
     }
 
     // A row in use.
     pub fn row(&self, i: usize) -> Option<Row>
         ensures { result ≡ slice_get (seen self.now).rows i }
     {
-        nth_of(self.rows, self.counts.rows, i)
+        self.rows_in_use().get(i).copied()
     }
 
     // Does the row read a quantity in use, in a mode that fits it?
     pub fn row_is_lawful(&self, row: Row) -> bool
         ensures { result ≡ row_lawful K.Kind.meaning (seen self.now).quantities row }
     {
-        match self.quantity(row.quantity) {
-            Some(q) => mode_fits(row.mode, q.scope),
-            None => false,
-        }
+        self.quantity(row.quantity)
+            .is_some_and(|q| mode_fits(row.mode, q.scope))
     }
 
     // Is the entry any, or a cell that is lawful for the row's range?
@@ -86,10 +78,9 @@ impl<'a, K: Kind, R: ResultKind> View<'a, K, R> {
     {
         match entry {
             Entry::Any => true,
-            Entry::Cell(cell) => match self.quantity(row.quantity) {
-                Some(q) => K::fits(cell, q.least, q.greatest),
-                None => false,
-            },
+            Entry::Cell(cell) => self
+                .quantity(row.quantity)
+                .is_some_and(|q| K::fits(cell, q.least, q.greatest)),
         }
     }
 
@@ -97,33 +88,24 @@ impl<'a, K: Kind, R: ResultKind> View<'a, K, R> {
     pub fn accepts(&self, row: usize, entry: Entry<K::Cell>) -> bool
         ensures { result ≡ lawful_at K.Kind.meaning R.ResultKind.results (seen self.now).quantities (slice_get (seen self.now).rows row) «entry» }
     {
-        match self.row(row) {
-            Some(row) => self.entry_is_lawful(row, entry),
-            None => false,
-        }
+        self.row(row)
+            .is_some_and(move |row| self.entry_is_lawful(row, entry))
     }
 
     fn ranges_are_lawful(&self) -> bool
         ensures { result ≡ all_of (range_lawful K.Kind.meaning) (seen self.now).quantities }
     {
-        for i in 0..self.counts.quantities {
-            let q = self.quantities[i];
-            if !K::is_range(q.least, q.greatest) {
-                return false;
-            }
-        }
-        true
+        self.quantities_in_use()
+            .iter()
+            .all(|q| K::is_range(q.least, q.greatest))
     }
 
     fn rows_are_lawful(&self) -> bool
         ensures { result ≡ all_of (row_lawful K.Kind.meaning (seen self.now).quantities) (seen self.now).rows }
     {
-        for i in 0..self.counts.rows {
-            if !self.row_is_lawful(self.rows[i]) {
-                return false;
-            }
-        }
-        true
+        self.rows_in_use()
+            .iter()
+            .all(|row| self.row_is_lawful(*row))
     }
 
     // Are the entries of a column lawful, in the rows in use? Never n is column 16 + n.
@@ -131,67 +113,46 @@ impl<'a, K: Kind, R: ResultKind> View<'a, K, R> {
         requires { column < 24 }
         ensures { result ≡ entries_lawful K.Kind.meaning (seen self.now).quantities (seen self.now).rows (column_of self.now.entries.now self.now.counts.rows column) }
     {
-        for i in 0..self.counts.rows {
-            if !self.entry_is_lawful(self.rows[i], self.entries[24 * i + column]) {
-                return false;
-            }
-        }
-        true
+        self.column(column)
+            .all(|(row, entry)| self.entry_is_lawful(row, entry))
     }
 
     fn columns_are_lawful(&self) -> bool
         ensures { result ≡ all_of (λ k. entries_lawful K.Kind.meaning (seen self.now).quantities (seen self.now).rows k.entries && R.ResultKind.results.lawful k.result) (seen self.now).columns }
     {
-        for j in 0..self.counts.columns {
-            let result = self.results[j];
-            if !self.column_is_lawful(j) {
-                return false;
-            }
-            if !result.is_lawful() {
-                return false;
-            }
-        }
-        true
+        self.results_in_use()
+            .iter()
+            .enumerate()
+            .all(|(j, res)| self.column_is_lawful(j) && res.is_lawful())
     }
 
     fn nevers_are_lawful(&self) -> bool
         ensures { result ≡ all_of (entries_lawful K.Kind.meaning (seen self.now).quantities (seen self.now).rows) (seen self.now).nevers }
     {
-        for j in 0..self.counts.nevers {
-            if !self.column_is_lawful(16 + j) {
-                return false;
-            }
-        }
-        true
+        (0..self.counts.nevers).all(|j| self.column_is_lawful(16 + j))
     }
 
     fn default_is_lawful(&self) -> bool
         ensures { result ≡ default_lawful R.ResultKind.results (seen self.now).default }
     {
-        if self.counts.default {
-            self.results[16].is_lawful()
-        } else {
-            true
-        }
+        self.default_result().is_none_or(|res| res.is_lawful())
     }
 
     // Is each entry in use one that the draft calls would accept?
     pub fn is_acceptable(&self) -> bool
         ensures { result ≡ acceptable K.Kind.meaning R.ResultKind.results (seen self.now) }
     {
-        if !self.ranges_are_lawful() || !self.rows_are_lawful() {
-            return false;
-        }
-        if !self.columns_are_lawful() || !self.nevers_are_lawful() {
-            return false;
-        }
-        self.default_is_lawful()
+        self.ranges_are_lawful()
+            && self.rows_are_lawful()
+            && self.columns_are_lawful()
+            && self.nevers_are_lawful()
+            && self.default_is_lawful()
     }
 }
 
 impl<'a, K: Kind, R: ResultKind> Lists<'a, K, R> {
     // Are the four lists of right length?
-    fn are_long(&self) -> bool
+    pub fn are_long(&self) -> bool
         ensures { result ≡ right_lengths (lists_of self.now) }
     {
         self.quantities.len() == 16
@@ -223,14 +184,9 @@ impl<'a, K: Kind, R: ResultKind> Lists<'a, K, R> {
         requires { Bounded counts }
         ensures { FirstAnswer K.Kind.meaning R.ResultKind.results counts self.now result }
     {
-        let Some(view) = self.view(counts) else {
-            return Err(SheetFault::Lists);
-        };
-        if view.is_acceptable() {
-            Ok(view)
-        } else {
-            Err(SheetFault::Lists)
-        }
+        self.view(counts)
+            .filter(|view| view.is_acceptable())
+            .ok_or(SheetFault::Lists)
     }
 
     // The sheet that the lists hold, if the first question is answered yes. Counts that no draft can
@@ -254,9 +210,6 @@ impl<'a, K: Kind, R: ResultKind> Lists<'a, K, R> {
     pub fn in_order(&self, counts: Counts) -> bool
         ensures { Bounded counts → result ≡ in_order K.Kind.meaning R.ResultKind.results counts (lists_of self.now) }
     {
-        match self.checked(counts) {
-            Ok(_) => true,
-            Err(_) => false,
-        }
+        self.checked(counts).is_ok()
     }
 }

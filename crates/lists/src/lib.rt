@@ -5,6 +5,7 @@
 
 pub mod encounter;
 pub mod first_question;
+pub mod in_use;
 pub mod lent;
 pub mod places;
 pub mod view;

@@ -1,5 +1,5 @@
--- Look-up by its questions one by one, and the loop over the quantities. Assumes nothing.
-use Rattle.std.proofs.Common.{◌≡◌, ℕ, suc, ◌+◌, ◌<◌, ◌≤◌, Bool, true, false, cond, List, [], ◌∷◌, ◌++◌, map, length, get_or, take, drop, Some, None, Ok, Err, Option, Result, unwrap_or, sym, refl, ap, ◌∙◌, ap₂, add-one}
+-- Look-up by its questions one by one. Assumes nothing.
+use Rattle.std.proofs.Common.{◌≡◌, ℕ, suc, Bool, true, false, cond, List, [], ◌∷◌, ◌++◌, map, Some, None, Ok, Err, Option, Result, unwrap_or, sym, refl, ap, ◌∙◌, ap₂}
 use Rattle.kinds.specs.Meaning.{Meaning}
 use Rattle.faults.specs.declared.LookupFault.{LookupFault}
 use Rattle.faults.specs.declared.LookupFault.TheVariants.{OutOfRange}
@@ -15,28 +15,7 @@ use Rattle.tables.specs.Outcomes.{Outcome, barred, gap, clash, answer, outcome}
 use Rattle.tables.specs.Lookups.{Look, short_for, no_result, outside_at, by_outcome, look_up, told}
 use Rattle.tables.specs.Answers.{look_up_answer}
 use Rattle.tables.specs.Storage.{Lists, contents_of, in_order}
-use Rattle.lists.proofs.Left.{front_read, front-end}
-use Rattle.lookups.specs.Steps.{before, asked_at, asked_in, asked_of, asked_from, outcome_told, raised}
-
-module _ {V C : Type 0} (m : Meaning V C) (e : Encounter V) (qs : List (Quantity V)) (n : ℕ) (long : n ≤ length qs) where
-  -- the quantities from number i on, by the one that was read there
-  pub asked_here : (i : ℕ) (q : Quantity V) → i < n
-      → asked_from m e i (drop i (take n qs)) ≡ before (asked_of m e (get_or qs i q) i) (asked_from m e (i + 1) (drop (i + 1) (take n qs)))
-  asked_here i q h =
-      ap (asked_from m e i) (front_read qs n i q long h)
-      ∙ ap (λ k. before (asked_of m e (get_or qs i q) i) (asked_from m e k (drop (i + 1) (take n qs)))) (sym (add-one i))
-
-  -- refused there, and accepted there
-  pub asked-break : (i : ℕ) (q : Quantity V) (f : LookupFault) {z : Result (Unit {0}) LookupFault} → i < n → Err f ≡ asked_of m e (get_or qs i q) i
-      → asked_from m e i (drop i (take n qs)) ≡ z → Err f ≡ z
-  asked-break i q f h k inv = ap (λ o. before o (asked_from m e (i + 1) (drop (i + 1) (take n qs)))) k ∙ sym (asked_here i q h) ∙ inv
-
-  pub asked-on : (i : ℕ) (q : Quantity V) (u : Unit {0}) {z : Result (Unit {0}) LookupFault} → i < n → Ok u ≡ asked_of m e (get_or qs i q) i
-      → asked_from m e i (drop i (take n qs)) ≡ z → asked_from m e (i + 1) (drop (i + 1) (take n qs)) ≡ z
-  asked-on i q u h k inv = ap (λ o. before o (asked_from m e (i + 1) (drop (i + 1) (take n qs)))) k ∙ sym (asked_here i q h) ∙ inv
-
-  pub asked-end : (i : ℕ) {z : Result (Unit {0}) LookupFault} → n ≤ i → asked_from m e i (drop i (take n qs)) ≡ z → Ok tt ≡ z
-  asked-end i h inv = sym (ap (asked_from m e i) (front-end qs n i h)) ∙ inv
+use Rattle.lookups.specs.Steps.{before, asked_at, asked_in, asked_from, outcome_told, raised}
 
 module _ {V C R : Type 0} (m : Meaning V C) (r : Results R) (c : Contents V C R) (e : Encounter V) where
   -- what the first value out of range is told as

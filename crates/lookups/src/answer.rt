@@ -25,10 +25,7 @@ fn result_of<R: ResultKind>(outcome: Outcome<R>) -> Result<R, LookupFault>
     match outcome {
         Outcome::Barred => Err(LookupFault::Barred),
         Outcome::Gap => Err(LookupFault::Gap),
-        Outcome::Clash {
-            lowest: _,
-            other: _,
-        } => Err(LookupFault::Clash),
+        Outcome::Clash { .. } => Err(LookupFault::Clash),
         Outcome::Answer(result) => Ok(result),
     }
 }
@@ -54,8 +51,7 @@ fn answer<K: Kind, R: ResultKind>(
     if !e.is_whole() {
         return Err(SheetFault::EncounterLists);
     }
-    let found = result(view, e)?;
-    Ok(found)
+    Ok(result(view, e)?)
 }
 
 // The answer from counts and lists, whatever the lists hold. Counts that no sheet can have are refused.
@@ -66,6 +62,5 @@ pub fn look_up_in<K: Kind, R: ResultKind>(
 ) -> Result<R, SheetFault>
     ensures { Bounded counts → result ≡ look_up_answer K.Kind.meaning R.ResultKind.results counts (lists_of lists.now) (encounter_of e.now) }
 {
-    let view = lists.checked(counts)?;
-    answer(&view, e)
+    answer(&lists.checked(counts)?, e)
 }

@@ -15,13 +15,12 @@ use results::ResultKind;
 fn is_within<K: Kind>(quantity: Quantity<K::Value>, value: Option<K::Value>) -> bool
     ensures { result ≡ within K.Kind.meaning quantity value }
 {
-    match value {
-        Some(v) => K::at_or_before(quantity.least, v) && K::at_or_before(v, quantity.greatest),
-        None => false,
-    }
+    value.is_some_and(|v| K::at_or_before(quantity.least, v)
+        && K::at_or_before(v, quantity.greatest))
 }
 
 // Asks the value of a quantity in one of the lists.
+// `side` and `quantity` stay two parameters: `value` and `OutOfRange` name the two, so a pair would be taken apart.
 fn ask<K: Kind>(
     q: Quantity<K::Value>,
     side: Side,
@@ -61,8 +60,8 @@ pub fn ask_all<K: Kind, R: ResultKind>(
 ) -> Result<(), LookupFault>
     ensures { result ≡ asked_from K.Kind.meaning (encounter_of e.now) 0 (seen view.now).quantities }
 {
-    for i in 0..view.counts.quantities {
-        ask_flights::<K>(view.quantities[i], i, e)?;
+    for (i, q) in view.quantities_in_use().iter().enumerate() {
+        ask_flights::<K>(*q, i, e)?;
     }
     Ok(())
 }

@@ -5,15 +5,15 @@
 
 #![tactic(auto)]
 
-ghost use Rattle.std.specs.Prelude.{◌≡◌, ◌<◌, true, not, pos, ◌+ℤ◌, if◌then◌else◌};
+ghost use Rattle.std.specs.Prelude.{◌≡◌, not, pos, ◌+ℤ◌, if◌then◌else◌};
 ghost use Rattle.std.proofs.Common.{ap, arith};
 ghost use Rattle.kinds.specs.Meaning.{earlier, later};
 ghost use Rattle.measure.specs.Measures.{measure, measure_rank, is_measure};
 ghost use Rattle.std.proofs.lemmas.Int.{ints};
-ghost use Rattle.kinds.proofs.Earliest.{before-both, earlier-keeps, later-later, later-before};
+ghost use Rattle.kinds.proofs.Earliest.{two-later, two-before};
 ghost use Rattle.measure.specs.MeasureKindLemmas.{same-within};
 
-use kinds::Kind;
+use kinds::{Kind, earlier_by};
 
 // The greatest measure; the least is minus it.
 pub const LIMIT: i32 = 1_000_000;
@@ -38,36 +38,18 @@ fn is_measure(z: i32) -> bool
 }
 
 // The number z, if it is a measure and after another.
+// One function for all kinds, passed their order and test, would make each call longer than this body.
 fn measure_after(after: i32, z: i32) -> Option<i32>
     ensures { result ≡ later measure_rank is_measure after z }
 {
-    if after < z && is_measure(z) {
-        Some(z)
-    } else {
-        None
-    }
+    (after < z && is_measure(z)).then_some(z)
 }
 
 // The number after z, if it is a measure and after another.
 fn measure_past(after: i32, z: i32) -> Option<i32>
     ensures { result ≡ later measure_rank is_measure after (z +ℤ pos 1) }
 {
-    if z < LIMIT {
-        measure_after(after, z + 1)
-    } else {
-        None
-    }
-}
-
-// The lower of two stops, or the one there is.
-fn lower(a: Option<i32>, b: Option<i32>) -> Option<i32>
-    ensures { result ≡ earlier measure_rank a b }
-{
-    match (a, b) {
-        (None, o) => o,
-        (Some(x), None) => Some(x),
-        (Some(x), Some(y)) => { if x <= y { Some(x) } else { Some(y) } }
-    }
+    measure_after(after, z.saturating_add(1))
 }
 
 impl Kind for Measure {
@@ -82,11 +64,10 @@ impl Kind for Measure {
       distinct = λ v w p q e. Prim.grind (arith, ints);
       ordered = λ a z r. Prim.grind (arith, ints);
       between = λ a z v r p q. Prim.grind (arith, ints);
-      later = λ c v s e. earlier-keeps measure_rank (λ x. (measure_rank v < measure_rank x) × (is_measure x ≡ true)) (later measure_rank is_measure v c.lo) (later measure_rank is_measure v (c.hi +ℤ pos 1)) (later-later measure_rank is_measure v c.lo) (later-later measure_rank is_measure v (c.hi +ℤ pos 1)) s e;
+      later = λ c v s e. two-later measure_rank is_measure v c.lo (c.hi +ℤ pos 1) s e;
       steady = λ c a z v w r f p q k h.
-          let b = before-both measure_rank (later measure_rank is_measure v c.lo) (later measure_rank is_measure v (c.hi +ℤ pos 1)) w h in
           ap (λ t. (if c.inside then t else not t)) (same-within c v w (Prim.grind (arith, ints)) (Prim.grind (arith, ints)) (Prim.grind (arith, ints)) (Prim.grind (arith, ints)) q
-          (later-before measure_rank is_measure v w c.lo b.0) (later-before measure_rank is_measure v w (c.hi +ℤ pos 1) b.1));
+          (two-before measure_rank is_measure v w c.lo (c.hi +ℤ pos 1) h));
     } };
 
     fn at_or_before(a: i32, b: i32) -> bool {
@@ -106,6 +87,10 @@ impl Kind for Measure {
     }
 
     fn next_stop(cell: Band, after: i32) -> Option<i32> {
-        lower(measure_after(after, cell.lo), measure_past(after, cell.hi))
+        earlier_by(
+            measure_after(after, cell.lo),
+            measure_past(after, cell.hi),
+            |x, y| x <= y,
+        )
     }
 }

@@ -80,13 +80,6 @@ impl Kind for Names {
     }
 
     fn next_stop(cell: NameSet, after: u32) -> Option<u32> {
-        if after < NAMES {
-            for w in after + 1..NAMES {
-                if cell.turns_at(w) {
-                    return Some(w);
-                }
-            }
-        }
-        None
+        (after.saturating_add(1)..NAMES).find(|w| cell.turns_at(*w))
     }
 }

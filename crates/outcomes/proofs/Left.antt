@@ -1,11 +1,11 @@
 -- What is left of a part of a sheet, one step on and at its end. Assumes nothing.
-use Rattle.std.proofs.Common.{◌≡◌, ℕ, suc, ◌+◌, ◌-◌, ◌*◌, ◌<◌, ◌≤◌, List, [], ◌∷◌, map, length, get_or, take, drop, sym, ap, ◌∙◌, ap₂, add-one, arith, length-take, get_or-take}
+use Rattle.std.proofs.Common.{◌≡◌, ℕ, suc, ◌+◌, ◌-◌, ◌*◌, ◌<◌, ◌≤◌, List, [], ◌∷◌, map, length, get_or, take, drop, ap, ◌∙◌, ap₂, arith, length-take, get_or-take}
 use Rattle.std.specs.List.{range_with_len}
 use Rattle.std.proofs.lemmas.List.{drop_more, drop_all, get_or_default}
 use Rattle.items.specs.declared.Row.{Row}
 use Rattle.items.specs.declared.Entry.{Entry}
 use Rattle.items.specs.declared.Entry.TheVariants.{Any}
-use Rattle.tables.specs.Storage.{column_of, columns_from}
+use Rattle.tables.specs.Storage.{column_of}
 
 -- the first n items from place i on
 pub front-here : {X : Type 0} (xs : List X) (n i : ℕ) (d : X) → n ≤ length xs → i < n → drop i (take n xs) ≡ get_or xs i d ∷ drop (i + 1) (take n xs)
@@ -25,16 +25,6 @@ count-end f n i h = let q : n - i ≡ 0 = omega arith in ap (λ k. map f (range_
 
 pub count-start : {X : Type 0} (f : ℕ → X) (n : ℕ) → map f (range_with_len 0 (n - 0)) ≡ map f (range_with_len 0 n)
 count-start f n = let q : n - 0 ≡ n = omega arith in ap (λ k. map f (range_with_len 0 k)) q
-
--- the columns from number j on
-pub columns-here : {C R : Type 0} (es : List (Entry C)) (w : ℕ) (rs : List R) (n j : ℕ) (d : R) → n ≤ length rs → j < n
-    → columns_from es w j (drop j (take n rs)) ≡ record { entries = column_of es w j; result = get_or rs j d } ∷ columns_from es w (j + 1) (drop (j + 1) (take n rs))
-columns-here es w rs n j d long h =
-    ap (columns_from es w j) (front-here rs n j d long h)
-    ∙ ap (λ k. record { entries = column_of es w j; result = get_or rs j d } ∷ columns_from es w k (drop (j + 1) (take n rs))) (sym (add-one j))
-
-pub columns-end : {C R : Type 0} (es : List (Entry C)) (w : ℕ) (rs : List R) (n j : ℕ) → n ≤ j → columns_from es w j (drop j (take n rs)) ≡ []
-columns-end es w rs n j h = ap (columns_from es w j) (front-end rs n j h)
 
 -- a function of the rows and entries of a column from row i on
 module _ {C X : Type 0} (F : List Row → List (Entry C) → X) (ws : List Row) (es : List (Entry C)) (n j : ℕ) where

@@ -9,7 +9,6 @@ use crate::outcome::{Outcome, clash_or_answer};
 use crate::row::entry_holds;
 use kinds::Kind;
 use lists::lent::Encounter;
-use lists::places::nth;
 use lists::view::View;
 use results::ResultKind;
 
@@ -22,24 +21,15 @@ fn is_met<K: Kind, R: ResultKind>(
     requires { column < 24 }
     ensures { result ≡ met K.Kind.meaning (seen view.now).rows (column_of view.now.entries.now view.now.counts.rows column) (encounter_of e.now) }
 {
-    for i in 0..view.counts.rows {
-        if !entry_holds::<K>(view.rows[i], view.entries[24 * i + column], e) {
-            return false;
-        }
-    }
-    true
+    view.column(column)
+        .all(|(row, entry)| entry_holds::<K>(row, entry, e))
 }
 
 // Is a never met?
 fn is_barred<K: Kind, R: ResultKind>(view: &View<'_, K, R>, e: &Encounter<'_, K::Value>) -> bool
     ensures { result ≡ some_met K.Kind.meaning (seen view.now).rows (seen view.now).nevers (encounter_of e.now) }
 {
-    for j in 0..view.counts.nevers {
-        if is_met(view, 16 + j, e) {
-            return true;
-        }
-    }
-    false
+    (0..view.counts.nevers).any(|j| is_met(view, 16 + j, e))
 }
 
 // Is a column met, with a result unequal to the given one?
@@ -52,8 +42,7 @@ fn differs<K: Kind, R: ResultKind>(
     requires { column < view.now.counts.columns }
     ensures { result ≡ (met K.Kind.meaning (seen view.now).rows (column_of view.now.entries.now view.now.counts.rows column) (encounter_of e.now) && not (R.ResultKind.results.same res (slice_index_or view.now.results.now column res))) }
 {
-    let same = res.same(view.results[column]);
-    is_met(view, column, e) && !same
+    is_met(view, column, e) && !res.same(view.results[column])
 }
 
 // The first column met from one on whose result is unequal to the given one.
@@ -65,35 +54,24 @@ fn next_unequal<K: Kind, R: ResultKind>(
 ) -> Option<usize>
     ensures { result ≡ unequal R.ResultKind.results res (met_from K.Kind.meaning view.now (encounter_of e.now) from) }
 {
-    for j in from..view.counts.columns {
-        if differs(view, j, res, e) {
-            return Some(j);
-        }
-    }
-    None
+    (from..view.counts.columns).find(|j| differs(view, *j, res, e))
 }
 
 // What an encounter gets that meets no column.
 fn unmet<K: Kind, R: ResultKind>(view: &View<'_, K, R>) -> Outcome<R>
     ensures { outcome_of result ≡ judged_of R.ResultKind.results (seen view.now).default [] }
 {
-    if !view.counts.default {
-        return Outcome::Gap;
-    }
-    match nth(view.results, 16) {
-        Some(result) => Outcome::Answer(result),
-        None => Outcome::Gap,
-    }
+    view.default_result()
+        .map_or(Outcome::Gap, |res| Outcome::Answer(res))
 }
 
 // What an encounter that is not barred gets from the columns and the default.
 fn judged<K: Kind, R: ResultKind>(view: &View<'_, K, R>, e: &Encounter<'_, K::Value>) -> Outcome<R>
     ensures { outcome_of result ≡ judged_of R.ResultKind.results (seen view.now).default (met_from K.Kind.meaning view.now (encounter_of e.now) 0) }
 {
-    for j in 0..view.counts.columns {
-        let result = view.results[j];
+    for (j, res) in view.results_in_use().iter().enumerate() {
         if is_met(view, j, e) {
-            return clash_or_answer(j, result, next_unequal(view, j + 1, result, e));
+            return clash_or_answer(j, *res, next_unequal(view, j + 1, *res, e));
         }
     }
     unmet(view)

@@ -27,10 +27,10 @@ pub(crate) fn clash_or_answer<R: ResultKind>(
 ) -> Outcome<R>
     ensures { outcome_of result ≡ clash_or_answer R.ResultKind.results (lowest, res) unequal }
 {
-    match unequal {
-        Some(other) => Outcome::Clash { lowest, other },
-        None => Outcome::Answer(res),
-    }
+    unequal.map_or(
+        Outcome::Answer(res),
+        |other| Outcome::Clash { lowest, other },
+    )
 }
 
 impl<R: ResultKind> Outcome<R> {
@@ -52,36 +52,25 @@ impl<R: ResultKind> Outcome<R> {
     pub fn is_clash(self) -> bool
         ensures { result ≡ is_clash R.ResultKind.results (outcome_of self) }
     {
-        match self {
-            Outcome::Clash {
-                lowest: _,
-                other: _,
-            } => true,
-            _ => false,
-        }
+        matches!(self, Outcome::Clash { .. })
     }
 
     // Is it an answer that means the same as the result?
     fn is_answer(self, res: R) -> bool
         ensures { result ≡ answers R.ResultKind.results res (outcome_of self) }
     {
-        match self {
-            Outcome::Answer(other) => res.same(other),
-            _ => false,
-        }
+        matches!(self, Outcome::Answer(other) if res.same(other))
     }
 
     // Are two outcomes alike? Unequal results differ.
+    // A derived `==` would tell two clashes apart, and results that mean the same.
     pub fn is_like(self, other: Outcome<R>) -> bool
         ensures { result ≡ alike R.ResultKind.results (outcome_of self) (outcome_of other) }
     {
         match self {
             Outcome::Barred => other.is_barred(),
             Outcome::Gap => other.is_gap(),
-            Outcome::Clash {
-                lowest: _,
-                other: _,
-            } => other.is_clash(),
+            Outcome::Clash { .. } => other.is_clash(),
             Outcome::Answer(result) => other.is_answer(result),
         }
     }

@@ -11,10 +11,7 @@ use lists::lent::Encounter;
 fn holds_for<K: Kind>(cell: K::Cell, value: Option<K::Value>) -> bool
     ensures { result ≡ holds_for K.Kind.meaning cell value }
 {
-    match value {
-        Some(v) => K::holds(cell, v),
-        None => false,
-    }
+    value.is_some_and(|v| K::holds(cell, v))
 }
 
 // Does the cell hold for a quantity, in a mode?
@@ -25,14 +22,12 @@ fn test<K: Kind>(mode: Mode, cell: K::Cell, quantity: usize, e: &Encounter<'_, K
         Mode::A => holds_for::<K>(cell, e.value(Side::OfA, quantity)),
         Mode::B => holds_for::<K>(cell, e.value(Side::OfB, quantity)),
         Mode::Both => {
-            let a = holds_for::<K>(cell, e.value(Side::OfA, quantity));
-            let b = holds_for::<K>(cell, e.value(Side::OfB, quantity));
-            a && b
+            holds_for::<K>(cell, e.value(Side::OfA, quantity))
+                && holds_for::<K>(cell, e.value(Side::OfB, quantity))
         }
         Mode::Either => {
-            let a = holds_for::<K>(cell, e.value(Side::OfA, quantity));
-            let b = holds_for::<K>(cell, e.value(Side::OfB, quantity));
-            a || b
+            holds_for::<K>(cell, e.value(Side::OfA, quantity))
+                || holds_for::<K>(cell, e.value(Side::OfB, quantity))
         }
         Mode::Pair => holds_for::<K>(cell, e.value(Side::OfPair, quantity)),
     }

@@ -1,5 +1,5 @@
 -- A page that was read, and what is told of it. Assumes nothing.
-use Rattle.std.proofs.Common.{◌≡◌, ℕ, true, List, IfOk, Ok, Result, subst, ap₂}
+use Rattle.std.proofs.Common.{◌≡◌, ℕ, true, List, IfOk, Ok, Result, pos, refl, subst, ap₂}
 use Rattle.house.specs.House.{Value, house}
 use Rattle.items.specs.declared.Counts.{Counts}
 use Rattle.results.specs.Figures.{figures}
@@ -7,9 +7,10 @@ use Rattle.page_faults.specs.declared.PageRefusal.{PageRefusal}
 use Rattle.tables.specs.Contents.{Encounter}
 use Rattle.tables.specs.Issued.{IssuedRightly}
 use Rattle.tables.specs.Storage.{contents_of, in_order}
+use Rattle.memory.specs.Memory.{blank_lists, blank_encounter}
 use Rattle.pages.specs.Reads.{PageLists, Went, read_page}
 use Rattle.pages.specs.ThereAndBack.{ReadRightly}
-use Rattle.reports.specs.Reports.{went_text, went_issued, report_on, issued_on, fresh_lists, fresh_values, fresh_encounter, report_text, is_issued}
+use Rattle.reports.specs.Reports.{went_text, went_issued, report_on, issued_on, fresh_lists, fresh_values, fresh_encounter, no_value, report_text, is_issued}
 use Rattle.reports.specs.Meant.{Reported}
 use Rattle.reports.proofs.Meaning.{reported}
 use Rattle.page.specs.Telling.{Tells}
@@ -29,12 +30,14 @@ module _ (page : List ℕ) (l l' : PageLists) (e : Encounter Value) (n : Counts)
       let same : n ≡ m = cc in
       subst (P m) left (subst (λ k. P k l') same h) (rightly m is).ordered
 
--- lists and an encounter that are the fresh ones
-pub fresh-lists : (l : PageLists) → l.quantities ≡ fresh_lists.quantities → l.rows ≡ fresh_lists.rows → l.entries ≡ fresh_lists.entries → l.results ≡ fresh_lists.results → l ≡ fresh_lists
-fresh-lists l p q r s = λ i. record { quantities = p i; rows = q i; entries = r i; results = s i }
+-- the lists and the encounter that the program starts with
+pub fresh-lists : blank_lists no_value (record { value = pos 0 }) ≡ fresh_lists
+unfolding fresh_lists
+fresh-lists = refl
 
-pub fresh-encounter : (e : Encounter Value) → e.a ≡ fresh_values → e.b ≡ fresh_values → e.pair ≡ fresh_values → e ≡ fresh_encounter
-fresh-encounter e p q r = λ i. record { a = p i; b = q i; pair = r i }
+pub fresh-encounter : blank_encounter no_value ≡ fresh_encounter
+unfolding fresh_values
+fresh-encounter = refl
 
 module _ (page : List ℕ) (l : PageLists) (e : Encounter Value) (p : l ≡ fresh_lists) (q : e ≡ fresh_encounter) where
   pub told_fresh : {E : Type 0} (r : Result Report E) → IfOk r (Tells (report_on page l e) (issued_on page l e)) → IfOk r (Tells (report_text page) (is_issued page))

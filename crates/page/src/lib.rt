@@ -2,6 +2,5 @@
 
 #![tactic(auto)]
 
-mod fresh;
 pub mod report;
 pub mod told;

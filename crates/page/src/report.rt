@@ -11,36 +11,40 @@ ghost use Rattle.results.specs.Figures.{figures};
 ghost use Rattle.tables.specs.Issued.{IssuedRightly};
 ghost use Rattle.tables.specs.Storage.{contents_of, in_order};
 
-use crate::fresh::{no_entries, no_quantities, no_results, no_rows, no_values};
 use crate::told::Report;
 use calling::calls::PageLists;
 use faults::SheetFault;
 use house::Value;
 use items::Quantity;
-use lists::lent::{Lists, Showing};
+use joined::Either;
+use lists::lent::Showing;
+use memory::encounter::EncounterMemory;
+use memory::sheet::SheetMemory;
 use page_faults::PageRefusal;
 use printing::lines::{add_lines, issued_line, refusal_line, refused_line};
 use reading::reading::read;
+use results::figure::Figure;
 use sheet::states::Draft;
 use std::alloc::{AllocError, Global};
+
+// A value that is written over before it is read.
+const NO_VALUE: Value = Either::Left(0);
 
 // Are two flights shown with this refusal?
 fn is_shown(fault: SheetFault) -> bool
     ensures { result ≡ is_shown fault }
 {
-    let number = fault.number();
-    16 <= number && number <= 18
+    matches!(
+        fault,
+        SheetFault::Gap | SheetFault::Clash { .. } | SheetFault::Asymmetry
+    )
 }
 
 // The first n quantities.
 fn in_use(quantities: &[Quantity<Value>], n: usize) -> &[Quantity<Value>]
     ensures { result.now ≡ take n quantities.now }
 {
-    if n < quantities.len() {
-        &quantities[0..n]
-    } else {
-        quantities
-    }
+    quantities.get(..n).unwrap_or(quantities)
 }
 
 // The report on a sheet that was issued.
@@ -61,13 +65,9 @@ fn refused(
     ensures { IfOk result (λ x. Tells (answer_text quantities.now (ErrOf fault) (shown at.now)) false x) }
 {
     let mut text = refused_line(heap, fault.number())?;
-    if !is_shown(fault) {
-        return Ok(Report {
-            text,
-            issued: false,
-        });
+    if is_shown(fault) {
+        add_lines(heap, &at.encounter(), quantities, &mut text)?;
     }
-    add_lines(heap, &at.encounter(), quantities, &mut text)?;
     Ok(Report {
         text,
         issued: false,
@@ -123,23 +123,7 @@ pub fn answer(heap: Global, page: &[u8]) -> Result<Report, AllocError>
     ensures told { IfOk result (λ x. Tells (report_text page.now) (is_issued page.now) x) }
     ensures meant { Reported page.now }
 {
-    let mut quantities = no_quantities();
-    let mut rows = no_rows();
-    let mut entries = no_entries();
-    let mut results = no_results();
-    let mut lists = Lists {
-        quantities: &mut quantities,
-        rows: &mut rows,
-        entries: &mut entries,
-        results: &mut results,
-    };
-    let mut a = no_values();
-    let mut b = no_values();
-    let mut pair = no_values();
-    let mut at = Showing {
-        a: &mut a,
-        b: &mut b,
-        pair: &mut pair,
-    };
-    answer_with(heap, page, &mut lists, &mut at)
+    let mut sheet = SheetMemory::new(NO_VALUE, Figure { value: 0 });
+    let mut encounter = EncounterMemory::new(NO_VALUE);
+    answer_with(heap, page, &mut sheet.lend(), &mut encounter.lend())
 }

@@ -1,6 +1,6 @@
 // What is told of a page.
 
-// What is printed, and whether the sheet is issued.
+// What is printed, and whether the sheet is issued. There is a text either way, so no `Option` says both.
 #[derive(Drop)]
 pub struct Report {
     pub text: String,

@@ -75,13 +75,22 @@ impl PageFault {
         ensures { result ≡ layer_of self }
     {
         match self {
-            PageFault::TooLong => Layer::OfPage,
-            PageFault::NotEnded => Layer::OfPage,
-            PageFault::Word => Layer::OfPage,
-            PageFault::Form => Layer::OfPage,
+            PageFault::TooLong | PageFault::NotEnded | PageFault::Word | PageFault::Form => {
+                Layer::OfPage
+            }
             PageFault::Call(SheetFault::Kind(_)) => Layer::OfKind,
             PageFault::Call(_) => Layer::OfSheet,
         }
+    }
+}
+
+impl LineFault {
+    // The refusal, on a line with this number.
+    pub fn on_line(self, line: usize) -> PageRefusal
+        ensures { result ≡ record { fault = self.fault; line = line; byte = self.byte } }
+    {
+        let LineFault { fault, byte } = self;
+        PageRefusal { fault, line, byte }
     }
 }
 
@@ -93,6 +102,28 @@ impl WriteFault {
         match self {
             WriteFault::Call(fault) => fault.number(),
             WriteFault::NoRoom => 28,
+        }
+    }
+}
+
+// A fault of a whole line tells its first byte.
+impl From<PageFault> for LineFault {
+    ghost from_gives = { λ e r. r ≡ record { fault = e; byte = 1 } };
+
+    fn from(fault: PageFault) -> LineFault {
+        LineFault { fault, byte: 1 }
+    }
+}
+
+// A fault of a whole page tells its first line.
+impl From<PageFault> for PageRefusal {
+    ghost from_gives = { λ e r. r ≡ record { fault = e; line = 1; byte = 1 } };
+
+    fn from(fault: PageFault) -> PageRefusal {
+        PageRefusal {
+            fault,
+            line: 1,
+            byte: 1,
         }
     }
 }

@@ -9,8 +9,6 @@ ghost use Rattle.pages.specs.ThereAndBack.{ThereAndBack};
 
 // A page that was read is written back byte for byte, and one that was written reads back to the
 // same contents.
-pub fn there_and_back() -> u8
+pub fn there_and_back()
     ensures { ThereAndBack }
-{
-    0
-}
+{}

@@ -25,7 +25,7 @@ pub fn refused_line(heap: Global, number: u8) -> Result<String, AllocError>
     format!(in heap; "refused {number}\n")
 }
 
-// The line of a page that is not read to its end.
+// The line of a page that is not read to its end. A `Display` of the refusal would be used here alone.
 pub fn refusal_line(heap: Global, refusal: PageRefusal) -> Result<String, AllocError>
     ensures { IfOk result (λ s. string_bytes s ≡ refusal_text refusal) }
 {
@@ -76,8 +76,8 @@ pub fn add_lines(
 ) -> Result<(), AllocError>
     ensures { OnOk result (string_bytes text.new ≡ string_bytes text.old ++ lines_shown 0 (encounter_of e.now) quantities.now) }
 {
-    for i in 0..quantities.len() {
-        let line = quantity_line(heap, i, e, quantities[i].scope)?;
+    for (i, quantity) in quantities.iter().enumerate() {
+        let line = quantity_line(heap, i, e, quantity.scope)?;
         text.push_str(line.as_str())?;
     }
     Ok(())

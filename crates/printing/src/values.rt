@@ -11,13 +11,9 @@ use std::alloc::{AllocError, Global};
 fn time_text(heap: Global, t: u16) -> Result<String, AllocError>
     ensures { IfOk result (λ s. string_bytes s ≡ time_text t) }
 {
-    let hour = t / 60;
+    let hour = t / 60 % 100;
     let minute = t % 60;
-    let hour_tens = hour / 10 % 10;
-    let hour_ones = hour % 10;
-    let minute_tens = minute / 10 % 10;
-    let minute_ones = minute % 10;
-    Ok(format!(in heap; "{hour_tens}{hour_ones}:{minute_tens}{minute_ones}")?)
+    Ok(format!(in heap; "{hour:02}:{minute:02}")?)
 }
 
 // A value as on a page.

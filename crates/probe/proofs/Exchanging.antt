@@ -1,5 +1,5 @@
 -- A probe with the flights exchanged answers the same. Assumes nothing.
-use Rattle.std.proofs.Common.{◌≡◌, Bool, true, false, cond, ◌&&◌, ℤ, pos, ◌-ℤ◌, ◌*ℤ◌, Ok, Err, Result, sym, refl, ap, ◌∙◌, ap₂, inl, inr, arith}
+use Rattle.std.proofs.Common.{◌≡◌, Bool, true, cond, ◌&&◌, ℤ, pos, ◌-ℤ◌, ◌*ℤ◌, Ok, Err, Result, sym, refl, ap, ◌∙◌, ap₂, inl, inr, arith}
 use Rattle.std.proofs.lemmas.Bool.Decides.{nat_tests}
 use Rattle.std.proofs.lemmas.Int.{ints}
 use Rattle.kinds.specs.Meaning.{Meaning}
@@ -36,17 +36,11 @@ same_number_lem x y h = grind (arith, ints)
 pub figure-equal : (x y : Figure) → figures.same x y ≡ true → x ≡ y
 figure-equal x y h = ap (λ z. record { value = z }) (same_number_lem x.value y.value h)
 
-both_left : (b c : Bool) → (b && c) ≡ true → b ≡ true
-both_left b c h = grind (arith, nat_tests)
-
-both_right : (b c : Bool) → (b && c) ≡ true → c ≡ true
-both_right b c h = grind (arith, nat_tests)
+same_numbers : (a b c d : ℤ) → (same_number a b && same_number c d) ≡ true → (a ≡ b) × (c ≡ d)
+same_numbers a b c d h = (grind (arith, ints, nat_tests), grind (arith, ints, nat_tests))
 
 pub period-equal : (x y : Period) → periods.same x y ≡ true → x ≡ y
-period-equal x y h =
-    ap₂ (λ p q. record { from = p; to = q })
-    (same_number_lem x.from y.from (both_left (same_number x.from y.from) (same_number x.to y.to) h))
-    (same_number_lem x.to y.to (both_right (same_number x.from y.from) (same_number x.to y.to) h))
+period-equal x y h = let e = same_numbers x.from y.from x.to y.to h in ap₂ (λ s e. record { from = s; to = e }) e.0 e.1
 
 module _ {X C R : Type 0} (m : Meaning X C) (r : Results R) (equal : (x y : R) → r.same x y ≡ true → x ≡ y) (s : Source X C R) (e : Encounter X) where
   look-alike : Fit m r s e → look_up m r (held m s) (exchanged e) ≡ look_up m r (held m s) e
@@ -82,10 +76,7 @@ verdict-alike a b p k =
     ∙ ap (λ z. record { vertical = (pos 100 *ℤ difference a.level b.level) -ℤ k.vertical.value; lateral = difference a.lateral b.lateral -ℤ (pos 10 *ℤ k.lateral.value); longitudinal = z }) (along-margin a b p k.along)
 
 limits-alike : (x y z : Bool) → (y && (x && z)) ≡ (x && (y && z))
-limits-alike true true z = refl
-limits-alike true false z = refl
-limits-alike false true z = refl
-limits-alike false false z = refl
+limits-alike x y z = grind (arith, nat_tests)
 
 verdicts : (a b : Fix) (p : Passing) (o : Result Minima ProbeFault) → and_then o (λ k. Ok (verdict_of b a p k)) ≡ and_then o (λ k. Ok (verdict_of a b p k))
 verdicts a b p (Ok k) = ap Ok (verdict-alike a b p k)

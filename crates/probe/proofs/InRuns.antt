@@ -1,7 +1,7 @@
 -- A probe by four sheets that stand for runs of calls answers by the contents that the calls make. Assumes nothing.
-use Rattle.std.proofs.Common.{◌≡◌, Bool, true, false, cond, ◌&&◌, ◌⊎◌, List, ℤ, Ok, Err, Result, sym, refl, ap, ◌∙◌, subst, ap₂, inl, inr, arith}
+use Rattle.std.proofs.Common.{◌≡◌, Bool, true, false, cond, ◌⊎◌, List, ℤ, Ok, Err, Result, sym, refl, ap, ◌∙◌, subst, ap₂, inl, inr, arith}
 use Rattle.std.proofs.lemmas.Int.{ints}
-use Rattle.std.proofs.lemmas.Bool.Decides.{nat_tests}
+use Rattle.std.specs.Cmp.Derive.{both_true}
 use Rattle.kinds.specs.Meaning.{Meaning, Lawful}
 use Rattle.faults.specs.declared.LookupFault.TheVariants.{Barred}
 use Rattle.faults.specs.declared.SheetFault.{SheetFault}
@@ -43,14 +43,11 @@ plain r equal itself = record {
 number-itself : (x : ℤ) → same_number x x ≡ true
 number-itself x = grind (arith, ints)
 
-both_yes : (b c : Bool) → b ≡ true → c ≡ true → (b && c) ≡ true
-both_yes b c h k = grind (arith, nat_tests)
-
 figures-equal : Equal figures
 figures-equal = plain figures figure-equal (λ x. number-itself x.value)
 
 periods-equal : Equal periods
-periods-equal = plain periods period-equal (λ x. both_yes _ _ (number-itself x.from) (number-itself x.to))
+periods-equal = plain periods period-equal (λ x. both_true (number-itself x.from) (number-itself x.to))
 
 -- a look-up that is barred or has a result, and what that comes to with a letter
 abbrev Decided : {R : Type 0} → Result R SheetFault → Type 0

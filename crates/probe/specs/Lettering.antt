@@ -1,11 +1,19 @@
 -- The refusals of a probe. Assumes nothing.
-use Rattle.std.specs.Prelude.{ℕ, Ok, Err, Result}
+use Rattle.std.specs.Prelude.{ℕ, List, codes, Ok, Err, Result}
 use Rattle.faults.specs.Numbers.{sheet_number}
 use Rattle.faults.specs.declared.SheetFault.{SheetFault}
 use Rattle.probe.specs.declared.fault.Letter.{Letter}
+use Rattle.probe.specs.declared.fault.Letter.TheVariants.{V, L, G, N}
 use Rattle.probe.specs.declared.fault.Lettered.{Lettered}
 use Rattle.probe.specs.declared.fault.ProbeFault.{ProbeFault}
 use Rattle.probe.specs.declared.fault.ProbeFault.TheVariants.{Limits, Sheet}
+
+-- a letter as it is printed
+abbrev pub letter_text : Letter → List ℕ
+letter_text V = codes "V"
+letter_text L = codes "L"
+letter_text G = codes "G"
+letter_text N = codes "N"
 
 abbrev pub probe_number : ProbeFault → ℕ
 probe_number Limits = 23

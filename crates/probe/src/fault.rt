@@ -1,9 +1,10 @@
 // Why a probe is refused: its own limits, or a look-up's refusal with the letter of the sheet.
-ghost use Rattle.std.specs.Prelude.{◌≡◌};
-ghost use Rattle.probe.specs.Lettering.{lettered, probe_number};
+ghost use Rattle.std.specs.Prelude.{◌≡◌, Some};
+ghost use Rattle.probe.specs.Lettering.{letter_text, probe_number};
 ghost use Rattle.probe.specs.declared.fault.ProbeFault.TheVariants.{Sheet as OfSheet};
 
 use faults::SheetFault;
+use std::fmt;
 
 // The four sheets: vertical and lateral minima, and along the way those of the same direction and
 // the periods of opposite ones.
@@ -30,6 +31,19 @@ pub enum ProbeFault {
     Sheet(Letter, SheetFault),
 }
 
+impl fmt::Display for Letter {
+    ghost output = { λ k. Some (letter_text k) };
+
+    fn fmt<W: fmt::Write>(&self, f: &mut fmt::Formatter<W>) -> fmt::Result {
+        match self {
+            Letter::V => write!(f, "V"),
+            Letter::L => write!(f, "L"),
+            Letter::G => write!(f, "G"),
+            Letter::N => write!(f, "N"),
+        }
+    }
+}
+
 impl ProbeFault {
     // The number by which users know the refusal.
     pub fn number(self) -> u8
@@ -47,18 +61,5 @@ impl From<Lettered> for ProbeFault {
 
     fn from(refusal: Lettered) -> ProbeFault {
         ProbeFault::Sheet(refusal.letter, refusal.fault)
-    }
-}
-
-// What a sheet answered, a refusal with the sheet's letter.
-pub(crate) fn with_letter<R: Copy>(
-    letter: Letter,
-    answer: Result<R, SheetFault>,
-) -> Result<R, Lettered>
-    ensures { result ≡ lettered letter answer }
-{
-    match answer {
-        Ok(result) => Ok(result),
-        Err(fault) => Err(Lettered { letter, fault }),
     }
 }

@@ -7,41 +7,37 @@ ghost use Rattle.probe.specs.Probed.{four, probed};
 
 use crate::fault::ProbeFault;
 use crate::minima::Sheets;
-use fixes::fix::{Fix, Passing};
+use fixes::fix::Flights;
 use fixes::verdict::Verdict;
 use kinds::Kind;
 use lists::lent::Encounter;
 
 // The limits are asked first, then the sheets, and the margins come last.
 fn answer<K: Kind>(
-    sheets: &Sheets<'_, '_, '_, '_, '_, K>,
+    sheets: &Sheets<'_, K>,
     e: &Encounter<'_, K::Value>,
-    a: Fix,
-    b: Fix,
-    passing: Passing,
+    flights: Flights,
 ) -> Result<Verdict, ProbeFault>
-    ensures { result ≡ probed K.Kind.meaning (four sheets.now) (encounter_of e.now) a b passing }
+    ensures { result ≡ probed K.Kind.meaning (four sheets.now) (encounter_of e.now) flights.a flights.b flights.passing }
 {
-    if !a.is_in_limits() || !b.is_in_limits() || !passing.is_in_limits() {
+    if !flights.is_in_limits() {
         return Err(ProbeFault::Limits);
     }
-    let minima = sheets.minima(passing.direction, e)?;
-    Ok(minima.verdict(a, b, passing))
+    let minima = sheets.minima(flights.passing.direction, e)?;
+    Ok(minima.verdict(flights))
 }
 
 // The margins of two flights, A and B, in an encounter. Over sheets without fault, with the
 // encounter in range for those looked up, the exchanged flights get the same answer. Sheets that runs
 // of calls issued are without fault.
 pub fn probe<K: Kind>(
-    sheets: &Sheets<'_, '_, '_, '_, '_, K>,
+    sheets: &Sheets<'_, K>,
     e: &Encounter<'_, K::Value>,
-    a: Fix,
-    b: Fix,
-    passing: Passing,
+    flights: Flights,
 ) -> Result<Verdict, ProbeFault>
-    ensures answer { result ≡ probed K.Kind.meaning (four sheets.now) (encounter_of e.now) a b passing }
-    ensures exchanged { SameExchanged K.Kind.meaning (four sheets.now) (encounter_of e.now) a b passing }
-    ensures in_run { (calls : Runs K.Value K.Cell) → AllStand K.Kind.meaning calls (four sheets.now) → ProbeInRun K.Kind.meaning calls (encounter_of e.now) a b passing result }
+    ensures answer { result ≡ probed K.Kind.meaning (four sheets.now) (encounter_of e.now) flights.a flights.b flights.passing }
+    ensures exchanged { SameExchanged K.Kind.meaning (four sheets.now) (encounter_of e.now) flights.a flights.b flights.passing }
+    ensures in_run { (calls : Runs K.Value K.Cell) → AllStand K.Kind.meaning calls (four sheets.now) → ProbeInRun K.Kind.meaning calls (encounter_of e.now) flights.a flights.b flights.passing result }
 {
-    answer(sheets, e, a, b, passing)
+    answer(sheets, e, flights)
 }

@@ -5,53 +5,29 @@
 use anyhow::anyhow;
 use calling::calls::PageLists;
 use faults::SheetFault;
-use house::{House, Value, measure_value, name_value, names_cell};
+use house::{House, measure_value, name_value, names_cell};
 use items::{Entry, Mode, Quantity, Row, Scope};
-use lists::lent::{Lists, Showing};
+use lists::lent::Lists;
+use memory::encounter::EncounterMemory;
 use names::NameSet;
 use reading::reading::read;
 use results::ResultKind;
 use results::period::Period;
 use sheet::states::{Draft, Issued};
 
-// What a list of quantities holds before it is written.
-pub fn no_quantity() -> Quantity<Value> {
-    Quantity {
-        scope: Scope::Pair,
-        least: measure_value(0),
-        greatest: measure_value(0),
-    }
-}
-
-// What a list of rows holds before it is written.
-pub fn no_row() -> Row {
-    Row {
-        quantity: 0,
-        mode: Mode::Pair,
-    }
-}
-
 fn issue<R: ResultKind>(draft: Draft, lists: &Lists<'_, House, R>) -> anyhow::Result<Issued> {
-    let mut a = [measure_value(0); 16];
-    let mut b = [measure_value(0); 16];
-    let mut pair = [measure_value(0); 16];
-    let mut at = Showing {
-        a: &mut a,
-        b: &mut b,
-        pair: &mut pair,
-    };
+    let mut encounter = EncounterMemory::new(measure_value(0));
+    let mut at = encounter.lend();
     match draft.issue(lists, &mut at) {
-        Ok(accepted) => Ok(accepted.0),
+        Ok((issued, _)) => Ok(issued),
         Err(_) => Err(anyhow!("a sheet is not issued")),
     }
 }
 
 // Reads a page and issues its sheet.
 pub fn issue_page(page: &[u8], lists: &mut PageLists<'_>) -> anyhow::Result<Issued> {
-    match read(page, lists) {
-        Ok(draft) => issue(draft, lists),
-        Err(_) => Err(anyhow!("a page is refused")),
-    }
+    let draft = read(page, lists).map_err(|_| anyhow!("a page is refused"))?;
+    issue(draft, lists)
 }
 
 // From the passing time to 10 minutes after it for flights that reported over the common point,
@@ -60,6 +36,7 @@ fn write_periods(
     draft: &mut Draft,
     lists: &mut Lists<'_, House, Period>,
 ) -> Result<(), SheetFault> {
+    // A count with no index: three quantities that are alike.
     for _ in 0..3 {
         draft.name_quantity(
             lists,
@@ -86,8 +63,6 @@ fn write_periods(
 // Makes and issues the sheet of periods.
 pub fn issue_periods(lists: &mut Lists<'_, House, Period>) -> anyhow::Result<Issued> {
     let mut draft = Draft::open();
-    match write_periods(&mut draft, lists) {
-        Ok(()) => issue(draft, lists),
-        Err(_) => Err(anyhow!("a call is refused")),
-    }
+    write_periods(&mut draft, lists).map_err(|_| anyhow!("a call is refused"))?;
+    issue(draft, lists)
 }

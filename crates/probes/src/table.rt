@@ -1,102 +1,71 @@
 // The lines of an encounter.
 use crate::cases::Case;
-use fixes::fix::Fix;
-use house::{House, Value};
+use fixes::verdict::Verdict;
+use house::House;
 use lists::lent::Encounter;
-use probe::fault::{Letter, ProbeFault};
+use probe::fault::{Lettered, ProbeFault};
 use probe::minima::{Along, Minima, Sheets};
 use probe::probing::probe;
-use std::alloc::{AllocError, Global};
-
-fn letter_text(letter: Letter) -> &'static str {
-    match letter {
-        Letter::V => "V",
-        Letter::L => "L",
-        Letter::G => "G",
-        Letter::N => "N",
-    }
-}
+use std::fmt;
 
 // The minima, as the sheets give them.
-fn minima_text(heap: Global, minima: Minima) -> Result<String, AllocError> {
-    let v = minima.vertical.value;
-    let l = minima.lateral.value;
-    match minima.along {
-        Along::Trail(g) => {
-            let g = g.value;
-            format!(in heap; "V {v} ft, L {l} nm, G {g} min")
-        }
-        Along::Opposition(n) => {
-            let from = n.from;
-            let to = n.to;
-            format!(in heap; "V {v} ft, L {l} nm, N {from} to {to} min")
+#[derive(Clone, Copy)]
+struct MinimaText(Result<Minima, Lettered>);
+
+impl fmt::Display for MinimaText {
+    fn fmt<W: fmt::Write>(&self, f: &mut fmt::Formatter<W>) -> fmt::Result {
+        match self.0 {
+            Ok(minima) => {
+                let v = minima.vertical.value;
+                let l = minima.lateral.value;
+                match minima.along {
+                    Along::Trail(g) => write!(f, "V {v} ft, L {l} nm, G {} min", g.value),
+                    Along::Opposition(n) => {
+                        write!(f, "V {v} ft, L {l} nm, N {} to {} min", n.from, n.to)
+                    }
+                }
+            }
+            Err(refusal) => write!(
+                f,
+                "none, refused {} by {}",
+                refusal.fault.number(),
+                refusal.letter
+            ),
         }
     }
 }
 
 // What a probe answers.
-fn answer_text(
-    heap: Global,
-    sheets: &Sheets<'_, '_, '_, '_, '_, House>,
-    e: &Encounter<'_, Value>,
-    a: Fix,
-    b: Fix,
-    case: Case,
-) -> Result<String, AllocError> {
-    match probe(sheets, e, a, b, case.passing) {
-        Ok(verdict) => {
-            let v = verdict.vertical;
-            let l = verdict.lateral;
-            let g = verdict.longitudinal;
-            let said = if verdict.is_separated() {
-                "separated"
-            } else {
-                "not separated"
-            };
-            format!(in heap; "{v} ft, {l} tenths of a nm, {g} s: {said}")
-        }
-        Err(fault) => {
-            let number = fault.number();
-            match fault {
-                ProbeFault::Limits => format!(in heap; "refused {number}"),
-                ProbeFault::Sheet(letter, _) => {
-                    let letter = letter_text(letter);
-                    format!(in heap; "refused {number} by {letter}")
+#[derive(Clone, Copy)]
+struct AnswerText(Result<Verdict, ProbeFault>);
+
+impl fmt::Display for AnswerText {
+    fn fmt<W: fmt::Write>(&self, f: &mut fmt::Formatter<W>) -> fmt::Result {
+        match self.0 {
+            Ok(verdict) => {
+                let v = verdict.vertical;
+                let l = verdict.lateral;
+                let g = verdict.longitudinal;
+                let said = if verdict.is_separated() {
+                    "separated"
+                } else {
+                    "not separated"
+                };
+                write!(f, "{v} ft, {l} tenths of a nm, {g} s: {said}")
+            }
+            Err(fault) => {
+                write!(f, "refused {}", fault.number())?;
+                match fault {
+                    ProbeFault::Limits => Ok(()),
+                    ProbeFault::Sheet(letter, _) => write!(f, " by {letter}"),
                 }
             }
         }
     }
 }
 
-fn lines(
-    heap: Global,
-    sheets: &Sheets<'_, '_, '_, '_, '_, House>,
-    e: &Encounter<'_, Value>,
-    case: Case,
-) -> Result<String, AllocError> {
-    let name = case.name;
-    let minima = match sheets.minima(case.passing.direction, e) {
-        Ok(minima) => minima_text(heap, minima)?,
-        Err(refusal) => {
-            let letter = letter_text(refusal.letter);
-            let number = refusal.fault.number();
-            format!(in heap; "none, refused {number} by {letter}")?
-        }
-    };
-    let margins = answer_text(heap, sheets, e, case.a.fix, case.b.fix, case)?;
-    let other = e.exchanged();
-    let exchanged = answer_text(heap, sheets, &other, case.b.fix, case.a.fix, case)?;
-    format!(in heap;
-        "{name}\n  minima     {minima}\n  margins    {margins}\n  exchanged  {exchanged}\n"
-    )
-}
-
-// The minima of an encounter, the margins with the verdict, and the same exchanged.
-pub fn show(
-    heap: Global,
-    sheets: &Sheets<'_, '_, '_, '_, '_, House>,
-    case: Case,
-) -> Result<String, AllocError> {
+// Prints the minima of an encounter, the margins with the verdict, and the same exchanged.
+pub fn show(rt: &HostRuntime, sheets: &Sheets<'_, House>, case: Case) -> anyhow::Result<()> {
     let a = case.a.values();
     let b = case.b.values();
     let pair = case.values();
@@ -105,5 +74,13 @@ pub fn show(
         b: &b,
         pair: &pair,
     };
-    lines(heap, sheets, &e, case)
+    let flights = case.flights();
+    let minima = MinimaText(sheets.minima(flights.passing.direction, &e));
+    let margins = AnswerText(probe(sheets, &e, flights));
+    let exchanged = AnswerText(probe(sheets, &e.exchanged(), flights.exchanged()));
+    println!(rt; "{}", case.name)?;
+    println!(rt; "  minima     {minima}")?;
+    println!(rt; "  margins    {margins}")?;
+    println!(rt; "  exchanged  {exchanged}")?;
+    Ok(())
 }

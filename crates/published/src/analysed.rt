@@ -1,26 +1,44 @@
 // The published tables, by the names of their pages in data/.
 use crate::published::{Published, Symmetry, Why};
-use std::alloc::{AllocError, Global};
+use std::fmt;
 
 // A page, and what is published of it.
 #[derive(Clone, Copy)]
 pub struct Table {
     pub name: &'static str,
     pub published: Published,
-    // Why issue says something else, where it does.
-    pub why: Why,
+    // Why issue says something else, where it does and that is known.
+    pub why: Option<Why>,
+}
+
+// Whether issue agrees with what is published of a table.
+#[derive(Clone, Copy)]
+pub enum Verdict {
+    NotCompared,
+    Agrees,
+    Differs(Option<Why>),
+}
+
+impl fmt::Display for Verdict {
+    fn fmt<W: fmt::Write>(&self, f: &mut fmt::Formatter<W>) -> fmt::Result {
+        match self {
+            Verdict::NotCompared => f.write_str("not compared"),
+            Verdict::Agrees => f.write_str("agrees"),
+            Verdict::Differs(Some(why)) => write!(f, "differs: {why}"),
+            Verdict::Differs(None) => f.write_str("differs: not explained"),
+        }
+    }
 }
 
 impl Table {
     // Whether issue agrees with what is published, given what of it holds.
-    pub fn verdict(self, heap: Global, holds: bool) -> Result<String, AllocError> {
+    pub fn verdict(self, holds: bool) -> Verdict {
         if self.published.answer().is_none() {
-            String::from_str(heap, "not compared")
+            Verdict::NotCompared
         } else if holds {
-            String::from_str(heap, "agrees")
+            Verdict::Agrees
         } else {
-            let why = self.why.text();
-            format!(in heap; "differs: {why}")
+            Verdict::Differs(self.why)
         }
     }
 }
@@ -30,7 +48,7 @@ fn told(name: &'static str, published: Published) -> Table {
     Table {
         name,
         published,
-        why: Why::Unexplained,
+        why: None,
     }
 }
 
@@ -39,7 +57,7 @@ fn differing(name: &'static str, published: Published, why: Why) -> Table {
     Table {
         name,
         published,
-        why,
+        why: Some(why),
     }
 }
 

@@ -19,7 +19,7 @@ pub fn ask(heap: Global, page: &str) -> Result<String, AllocError> {
     Ok(report.text)
 }
 
-// The answer that the report's lines give.
+// The answer that the report's lines give; a report has no other word for its refusal.
 pub fn answer_of(text: &str) -> Answer {
     if text.starts_with("issued ") {
         Answer::Issued
@@ -48,27 +48,22 @@ pub fn one_line(heap: Global, text: &str) -> Result<String, AllocError> {
 
 // How many lines of a page begin with a word?
 fn lines_with(page: &str, word: &str) -> usize {
-    let mut n = 0usize;
-    for line in page.lines() {
-        if line.starts_with(word) {
-            n = n.saturating_add(1);
-        }
-    }
-    n
+    page.lines().filter(|line| line.starts_with(word)).count()
 }
 
 // The page without the k-th line, from 0, that begins with a word.
 fn without(heap: Global, page: &str, word: &str, k: usize) -> Result<String, AllocError> {
+    let left_out = page
+        .lines()
+        .enumerate()
+        .filter(|(_, line)| line.starts_with(word))
+        .map(|(i, _)| i)
+        .nth(k);
     let mut rest = String::new(heap);
-    let mut n = 0usize;
-    for line in page.lines() {
-        let found = line.starts_with(word);
-        if !(found && n == k) {
+    for (i, line) in page.lines().enumerate() {
+        if left_out != Some(i) {
             rest.push_str(line)?;
             rest.push_str("\n")?;
-        }
-        if found {
-            n = n.saturating_add(1);
         }
     }
     Ok(rest)
@@ -77,6 +72,7 @@ fn without(heap: Global, page: &str, word: &str, k: usize) -> Result<String, All
 // How many of the listed lines are needed: left out alone, each has issue answer as it should.
 pub fn needed(heap: Global, page: &str, listed: Listed) -> Result<usize, AllocError> {
     let all = lines_with(page, listed.word);
+    // A `filter` whose closure allocates could not fail where it does.
     let mut n = 0usize;
     for k in all.saturating_sub(listed.lines)..all {
         let rest = without(heap, page, listed.word, k)?;

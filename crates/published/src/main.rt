@@ -24,27 +24,23 @@ fn show(rt: &HostRuntime, table: Table) -> anyhow::Result<()> {
     let page = fs::read_to_string(rt, path.as_str())?;
     let text = ask(heap, page.as_str())?;
     let said = one_line(heap, text.as_str())?;
-    let published = table.published.text(heap)?;
+    let published = table.published;
     print!(rt; "{name}: {published} | {said}")?;
-    let mut holds = table.published.answer() == Some(answer_of(text.as_str()));
-    if let Some(listed) = table.published.listed() {
+    let mut holds = published.answer() == Some(answer_of(text.as_str()));
+    if let Some(listed) = published.listed() {
         let n = needed(heap, page.as_str(), listed)?;
         let all = listed.lines;
         print!(rt; ", {n} of {all} needed")?;
         holds = holds && n == all;
     }
     let mut out = vec![in heap; 0; 65536]?;
-    let again = is_written_back(page.as_bytes(), &mut out);
-    print!(rt;
-        " | {}",
-        if again {
-            "written back"
-        } else {
-            "not written back"
-        }
-    )?;
-    let verdict = table.verdict(heap, holds)?;
-    println!(rt; " | {verdict}")?;
+    let again = if is_written_back(page.as_bytes(), &mut out) {
+        "written back"
+    } else {
+        "not written back"
+    };
+    let verdict = table.verdict(holds);
+    println!(rt; " | {again} | {verdict}")?;
     Ok(())
 }
 

@@ -1,6 +1,6 @@
 // What the published analysis says of the table on a page, and why issue may say something else.
 use crate::answers::Answer;
-use std::alloc::{AllocError, Global};
+use std::fmt;
 
 // Does a table answer the same with the flights exchanged?
 #[derive(Clone, Copy)]
@@ -48,8 +48,6 @@ pub enum Published {
 // Why the two differ, or are not compared.
 #[derive(Clone, Copy)]
 pub enum Why {
-    // Nothing is known that would explain it.
-    Unexplained,
     // The table has a hole as well as a conflict.
     HoleFirst,
     // A case of the published list has a no where a yes is meant.
@@ -67,61 +65,49 @@ pub struct Listed {
     pub without: Answer,
 }
 
-impl Symmetry {
-    fn text(self) -> &'static str {
-        match self {
+impl fmt::Display for Symmetry {
+    fn fmt<W: fmt::Write>(&self, f: &mut fmt::Formatter<W>) -> fmt::Result {
+        f.write_str(match self {
             Symmetry::Shown => "symmetric",
             Symmetry::OfTerms => "symmetric if its terms are",
             Symmetry::OfWriting => "symmetric if written one way",
+        })
+    }
+}
+
+impl fmt::Display for Published {
+    fn fmt<W: fmt::Write>(&self, f: &mut fmt::Formatter<W>) -> fmt::Result {
+        match self {
+            Published::Complete => f.write_str("complete"),
+            Published::Incomplete => f.write_str("cases are missing"),
+            Published::Inconsistent => f.write_str("two columns conflict"),
+            Published::Summary {
+                defaults,
+                conflicts,
+                symmetry,
+            } => write!(
+                f,
+                "default cases {defaults}, conflicts {conflicts}, {symmetry}"
+            ),
+            Published::Cases { listed, .. } => write!(f, "default cases {listed}, listed"),
+            Published::Conflicts(n) => write!(f, "conflicts {n}, listed"),
+            Published::Conditions(_) => f.write_str("symmetric under its conditions"),
+            Published::OpenConditions => f.write_str("symmetric only under conditions"),
+            Published::Unassumed => f.write_str("nothing: an assumption is left out"),
+            Published::Amended => f.write_str("nothing: a fault is amended"),
         }
     }
 }
 
 impl Published {
-    // It as a part of a line.
-    pub fn text(self, heap: Global) -> Result<String, AllocError> {
-        match self {
-            Published::Complete => String::from_str(heap, "complete"),
-            Published::Incomplete => String::from_str(heap, "cases are missing"),
-            Published::Inconsistent => String::from_str(heap, "two columns conflict"),
-            Published::Summary {
-                defaults,
-                conflicts,
-                symmetry,
-            } => {
-                let symmetry = symmetry.text();
-                format!(in heap; "default cases {defaults}, conflicts {conflicts}, {symmetry}")
-            }
-            Published::Cases { listed, columns: _ } => format!(in heap;
-                "default cases {listed}, listed"
-            ),
-            Published::Conflicts(n) => format!(in heap; "conflicts {n}, listed"),
-            Published::Conditions(_) => String::from_str(heap, "symmetric under its conditions"),
-            Published::OpenConditions => String::from_str(heap, "symmetric only under conditions"),
-            Published::Unassumed => String::from_str(heap, "nothing: an assumption is left out"),
-            Published::Amended => String::from_str(heap, "nothing: a fault is amended"),
-        }
-    }
-
     // What issue answers if the analysis is right; none where it says nothing of the page.
     pub fn answer(self) -> Option<Answer> {
         match self {
             Published::Incomplete => Some(Answer::Hole),
             Published::Inconsistent => Some(Answer::Conflict),
             Published::OpenConditions => Some(Answer::Asymmetry),
-            Published::Summary {
-                defaults: _,
-                conflicts,
-                symmetry: _,
-            } => {
-                if conflicts > 0 {
-                    Some(Answer::Conflict)
-                } else {
-                    Some(Answer::Issued)
-                }
-            }
-            Published::Unassumed => None,
-            Published::Amended => None,
+            Published::Summary { conflicts, .. } if conflicts > 0 => Some(Answer::Conflict),
+            Published::Unassumed | Published::Amended => None,
             _ => Some(Answer::Issued),
         }
     }
@@ -129,7 +115,7 @@ impl Published {
     // The lines that stand for what it lists.
     pub fn listed(self) -> Option<Listed> {
         match self {
-            Published::Cases { listed: _, columns } => Some(Listed {
+            Published::Cases { columns, .. } => Some(Listed {
                 word: "column ",
                 lines: columns,
                 without: Answer::Hole,
@@ -149,14 +135,12 @@ impl Published {
     }
 }
 
-impl Why {
-    // It as a part of a line.
-    pub fn text(self) -> &'static str {
-        match self {
-            Why::Unexplained => "not explained",
+impl fmt::Display for Why {
+    fn fmt<W: fmt::Write>(&self, f: &mut fmt::Formatter<W>) -> fmt::Result {
+        f.write_str(match self {
             Why::HoleFirst => "it has holes too, and these are asked for first",
             Why::Misprint => "one listed case has a no where a yes is meant",
             Why::Surplus => "fewer of the listed cases would do",
-        }
+        })
     }
 }

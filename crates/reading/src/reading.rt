@@ -2,11 +2,9 @@
 ghost use Rattle.std.specs.Prelude.{◌≡◌, ℕ, ◌≤◌, List, ◌∷◌, length};
 ghost use Rattle.lines.specs.Left.{ahead, left, byte as byte_of};
 ghost use Rattle.lists.specs.Held.{SameLists, lists_of};
-ghost use Rattle.pages.specs.Reads.{on_line, read_lines, read_page};
+ghost use Rattle.pages.specs.Reads.{read_lines, read_page};
 ghost use Rattle.pages.specs.ThereAndBack.{ReadRightly};
-ghost use Rattle.page_faults.specs.declared.PageFault.TheVariants.{Word as WrongWord};
 ghost use Rattle.reading.specs.Lines.{counted, ended, read_on, word_or};
-ghost use Rattle.text.specs.Fields.{parted};
 ghost use Rattle.text.specs.Forms.{rest, rest_at};
 ghost use Rattle.text.specs.Pages.{head, word_at};
 ghost use Rattle.text.specs.Words.{first_word};
@@ -16,45 +14,12 @@ use calling::calls::{PageLists, make};
 use faults::SheetFault;
 use lexer::words::{allowed, first_word};
 use lines::cursor::Fields;
-use lines::pages::is_closed;
+use lines::pages::without_end;
 pub use lines::reader::MOST_BYTES;
 use lines::reader::Reader;
 use page_faults::{LineFault, PageFault, PageRefusal};
 use sheet::states::Draft;
 use text::types::{Section, Word};
-
-// The refusal of a whole page, which tells its first line.
-fn of_page(fault: PageFault) -> PageRefusal
-    ensures { result ≡ record { fault = fault; line = 1; byte = 1 } }
-{
-    PageRefusal {
-        fault,
-        line: 1,
-        byte: 1,
-    }
-}
-
-// A line whose first word is not allowed there.
-fn wrong_word(line: usize) -> PageRefusal
-    ensures { result ≡ record { fault = WrongWord; line = line; byte = 1 } }
-{
-    PageRefusal {
-        fault: PageFault::Word,
-        line,
-        byte: 1,
-    }
-}
-
-// A refusal with its line's number.
-fn on_line(line: usize, fault: LineFault) -> PageRefusal
-    ensures { result ≡ on_line line fault }
-{
-    PageRefusal {
-        fault: fault.fault,
-        line,
-        byte: fault.byte,
-    }
-}
 
 // The first word of a line, where it may stand in this section, and the section after it.
 fn word_of(section: Section, fields: &mut Fields<'_>) -> Option<(Word, Section)>
@@ -66,34 +31,21 @@ fn word_of(section: Section, fields: &mut Fields<'_>) -> Option<(Word, Section)>
     Some((word, allowed(section, word)?))
 }
 
-// All fields of a line of a page.
-fn fields_of<'a>(line: &'a [u8]) -> Fields<'a>
-    requires { length line.now ≤ 65536 }
-    ensures { (left result ≡ parted 32 line.now) × (byte_of result ≡ 1) }
-{
-    Fields::new(line)
-}
-
 // Reads a line and makes its calls: which lines may come after it.
 fn read_line(
     section: Section,
-    number: usize,
     line: &[u8],
     draft: &mut Draft,
     lists: &mut PageLists<'_>,
-) -> Result<Section, PageRefusal>
+) -> Result<Section, LineFault>
     requires { length line.now ≤ 65536 }
-    ensures went { (lines : List (List ℕ)) → read_lines section number (line.now ∷ lines) draft.old.counts (lists_of lists.old) ≡ read_on number result draft.new.counts (lists_of lists.new) lines }
+    ensures went { (k : ℕ) (lines : List (List ℕ)) → read_lines section k (line.now ∷ lines) draft.old.counts (lists_of lists.old) ≡ read_on k result draft.new.counts (lists_of lists.new) lines }
     ensures lent { SameLists lists.old lists.new }
 {
-    let mut fields = fields_of(line);
-    let Some((word, next)) = word_of(section, &mut fields) else {
-        return Err(wrong_word(number));
-    };
-    match make(word, &mut fields, draft, lists) {
-        Ok(()) => Ok(next),
-        Err(fault) => Err(on_line(number, fault)),
-    }
+    let mut fields = Fields::new(line);
+    let (word, next) = word_of(section, &mut fields).ok_or(PageFault::Word)?;
+    make(word, &mut fields, draft, lists)?;
+    Ok(next)
 }
 
 // Reads the lines before the last one.
@@ -106,13 +58,11 @@ fn read_lines(
     ensures lent { SameLists lists.old lists.new }
 {
     let mut section = Section::Quantities;
-    loop {
-        let number = reader.line;
-        let Some(line) = reader.next_line() else {
-            return Ok(());
-        };
-        section = read_line(section, number, line, draft, lists)?;
+    while let Some(line) = reader.next_line() {
+        let number = reader.line - 1;
+        section = read_line(section, line, draft, lists).map_err(|fault| fault.on_line(number))?;
     }
+    Ok(())
 }
 
 // The page's questions, and then its lines.
@@ -123,16 +73,13 @@ fn read_page(page: &[u8], lists: &mut PageLists<'_>) -> Result<Draft, PageRefusa
 {
     let mut draft = Draft::open();
     if !lists.in_order(draft.counts()) {
-        return Err(of_page(PageFault::Call(SheetFault::Lists)));
+        return Err(PageFault::Call(SheetFault::Lists).into());
     }
     if page.len() > MOST_BYTES {
-        return Err(of_page(PageFault::TooLong));
+        return Err(PageFault::TooLong.into());
     }
-    if page.len() < 4 || !is_closed(page) {
-        return Err(of_page(PageFault::NotEnded));
-    }
-    let mut reader = Reader::new(&page[0..page.len() - 4]);
-    read_lines(&mut reader, &mut draft, lists)?;
+    let lines = without_end(page).ok_or(PageFault::NotEnded)?;
+    read_lines(&mut Reader::new(lines), &mut draft, lists)?;
     Ok(draft)
 }
 

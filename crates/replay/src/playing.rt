@@ -16,13 +16,6 @@ use lists::places::put;
 use results::ResultKind;
 use sheet::states::Draft;
 
-// Are the four lists of right length? Of a draft just opened the first question asks no more.
-fn are_long<K: Kind, R: ResultKind>(lists: &Lists<'_, K, R>) -> bool
-    ensures { result ≡ right_lengths (lists_of lists.now) }
-{
-    lists.in_order(Draft::open().counts())
-}
-
 // Makes one call, and writes its answer at place i.
 fn answer<K: Kind, R: ResultKind>(
     sheet: Sheet,
@@ -38,9 +31,9 @@ fn answer<K: Kind, R: ResultKind>(
     ensures lent { SameLists lists.old lists.new }
     ensures lent_showing { SameShowing at.old at.new }
 {
-    let done = step(sheet, lists, at, call);
-    put(answers, i, done.1);
-    done.0
+    let (after, said) = step(sheet, lists, at, call);
+    put(answers, i, said);
+    after
 }
 
 // Makes every call and writes an answer for each.
@@ -75,7 +68,7 @@ pub fn replay<K: Kind, R: ResultKind>(
     ensures lent { SameLists lists.old lists.new }
     ensures lent_showing { SameShowing at.old at.new }
 {
-    if !are_long(lists) {
+    if !lists.are_long() {
         return Err(ReplayFault::Lists);
     }
     if answers.len() < calls.len() {

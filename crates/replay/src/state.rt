@@ -1,4 +1,4 @@
-// A sheet in either state.
+// A sheet in either state, of which neither is a failure.
 use sheet::states::{Draft, Issued};
 
 #[derive(Drop)]

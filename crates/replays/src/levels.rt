@@ -6,8 +6,41 @@ use lists::lent::Encounter;
 use measure::Band;
 use replay::script::Call;
 use results::figure::Figure;
+use std::alloc::{AllocError, Global};
 
-pub type LevelCall<'a> = Call<'a, i32, Band, Figure>;
+type LevelCall = Call<'static, i32, Band, Figure>;
+
+// Encounters of two low flights, of a high pair, of a flight too high for most, of one out of
+// range, and one whose first list is too short.
+const LOW: Encounter<'static, i32> = Encounter {
+    a: &[100; 16],
+    b: &[300; 16],
+    pair: &[7; 16],
+};
+
+const HIGH: Encounter<'static, i32> = Encounter {
+    a: &[300; 16],
+    b: &[300; 16],
+    pair: &[3; 16],
+};
+
+const TOP: Encounter<'static, i32> = Encounter {
+    a: &[650; 16],
+    b: &[100; 16],
+    pair: &[100; 16],
+};
+
+const OUT: Encounter<'static, i32> = Encounter {
+    a: &[700; 16],
+    b: &[300; 16],
+    pair: &[7; 16],
+};
+
+const SHORT: Encounter<'static, i32> = Encounter {
+    a: &[100; 15],
+    b: &[300; 16],
+    pair: &[7; 16],
+};
 
 fn feet(value: i32) -> Figure {
     Figure { value }
@@ -22,9 +55,9 @@ fn band(lo: i32, hi: i32) -> Entry<Band> {
 }
 
 // A draft is written, with refused edits on the way, and issue shows a gap and two clashes.
-pub fn writing<'a>(e: Encounter<'a, i32>) -> [LevelCall<'a>; 20] {
+pub fn writing() -> [LevelCall; 20] {
     [
-        Call::LookUp(e),
+        Call::LookUp(LOW),
         Call::Withdraw,
         Call::Edit(Edit::StrikeColumn),
         row(0, Mode::A),
@@ -39,7 +72,7 @@ pub fn writing<'a>(e: Encounter<'a, i32>) -> [LevelCall<'a>; 20] {
         set(0, 0, band(280, 0)),
         set(0, 0, band(0, 280)),
         Call::Issue,
-        Call::LookUp(e),
+        Call::LookUp(LOW),
         column(feet(2000)),
         Call::Issue,
         set(0, 1, band(281, 660)),
@@ -49,23 +82,18 @@ pub fn writing<'a>(e: Encounter<'a, i32>) -> [LevelCall<'a>; 20] {
 
 // The sheet is issued with a default, looked up and withdrawn; calls that its state does not allow
 // come in between.
-pub fn asking<'a>(
-    low: Encounter<'a, i32>,
-    high: Encounter<'a, i32>,
-    out: Encounter<'a, i32>,
-    short: Encounter<'a, i32>,
-) -> [LevelCall<'a>; 18] {
+fn asking() -> [LevelCall; 18] {
     [
         Call::Edit(Edit::StrikeColumn),
         default(feet(2000)),
         Call::Issue,
         Call::Issue,
         column(feet(5)),
-        Call::LookUp(low),
-        Call::LookUp(high),
-        Call::LookUp(out),
-        Call::LookUp(out.exchanged()),
-        Call::LookUp(short),
+        Call::LookUp(LOW),
+        Call::LookUp(HIGH),
+        Call::LookUp(OUT),
+        Call::LookUp(OUT.exchanged()),
+        Call::LookUp(SHORT),
         Call::Edit(Edit::ClearDefault),
         Call::Withdraw,
         Call::Withdraw,
@@ -79,20 +107,16 @@ pub fn asking<'a>(
 
 // A never bars first all encounters, then those with a level from 600 on, and is struck; a
 // quantity of the pair comes in.
-pub fn barring<'a>(
-    low: Encounter<'a, i32>,
-    high: Encounter<'a, i32>,
-    top: Encounter<'a, i32>,
-) -> [LevelCall<'a>; 20] {
+fn barring() -> [LevelCall; 20] {
     [
         Call::Edit(Edit::AddNever),
         Call::Issue,
         set(0, 16, band(600, 660)),
         Call::Issue,
-        Call::LookUp(top),
-        Call::LookUp(top.exchanged()),
-        Call::LookUp(low),
-        Call::LookUp(high),
+        Call::LookUp(TOP),
+        Call::LookUp(TOP.exchanged()),
+        Call::LookUp(LOW),
+        Call::LookUp(HIGH),
         Call::Withdraw,
         Call::Edit(Edit::StrikeNever),
         Call::Edit(Edit::StrikeNever),
@@ -101,9 +125,18 @@ pub fn barring<'a>(
         row(1, Mode::A),
         set(1, 0, band(5, 10)),
         Call::Issue,
-        Call::LookUp(low),
-        Call::LookUp(high),
-        Call::LookUp(top),
+        Call::LookUp(LOW),
+        Call::LookUp(HIGH),
+        Call::LookUp(TOP),
         Call::Issue,
     ]
+}
+
+// The three parts of the script.
+pub fn script(alloc: Global) -> Result<Vec<LevelCall>, AllocError> {
+    let mut script = Vec::new(alloc);
+    script.extend_from_slice(&writing())?;
+    script.extend_from_slice(&asking())?;
+    script.extend_from_slice(&barring())?;
+    Ok(script)
 }

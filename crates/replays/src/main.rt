@@ -8,13 +8,13 @@ mod periods;
 mod telling;
 mod writing;
 
-use crate::levels::LevelCall;
 use crate::telling::{Told, tell_answers, tell_contents};
-use items::{Counts, Entry, Mode, Quantity, Row, Scope};
+use items::Counts;
 use kinds::Kind;
-use lists::lent::{Encounter, Lists, Showing};
-use lists::places::put;
+use lists::lent::{Lists, Showing};
 use measure::Measure;
+use memory::encounter::EncounterMemory;
+use memory::sheet::SheetMemory;
 use names::Names;
 use replay::playing::replay;
 use replay::script::{Answer, Call, ReplayFault};
@@ -22,29 +22,8 @@ use replay::state::Sheet;
 use results::ResultKind;
 use results::figure::Figure;
 use results::period::Period;
+use std::fmt::Display;
 use std::io;
-
-// Writes a part of a script from a place on.
-fn join<T: Copy>(script: &mut [T], from: usize, part: &[T]) {
-    for (i, call) in part.iter().enumerate() {
-        put(script, from.wrapping_add(i), *call);
-    }
-}
-
-fn no_row() -> Row {
-    Row {
-        quantity: 0,
-        mode: Mode::Pair,
-    }
-}
-
-fn no_quantity<V: Copy>(value: V) -> Quantity<V> {
-    Quantity {
-        scope: Scope::Pair,
-        least: value,
-        greatest: value,
-    }
-}
 
 fn tell_sheet(rt: &HostRuntime, sheet: &Sheet) -> io::Result<Counts> {
     match sheet {
@@ -75,7 +54,7 @@ fn play<K: Kind, R: ResultKind + Told>(
     answers: &mut [Answer<R>],
 ) -> io::Result<()>
 where
-    K::Value: Told,
+    K::Value: Display,
     K::Cell: Told,
 {
     match replay(calls, lists, at, answers) {
@@ -88,130 +67,48 @@ where
     }
 }
 
-fn meeting<'a, V>(a: &'a [V], b: &'a [V], pair: &'a [V]) -> Encounter<'a, V> {
-    Encounter { a, b, pair }
-}
-
-fn level_script<'a>(
-    e3: &'a [i32],
-    e7: &'a [i32],
-    short: &'a [i32],
-    e100: &'a [i32],
-    e300: &'a [i32],
-    e650: &'a [i32],
-    e700: &'a [i32],
-) -> [LevelCall<'a>; 58] {
-    let low = meeting(e100, e300, e7);
-    let high = meeting(e300, e300, e3);
-    let top = meeting(e650, e100, e100);
-    let out = meeting(e700, e300, e7);
-    let mut script = [Call::Issue; 58];
-    join(&mut script, 0, &levels::writing(low));
-    join(
-        &mut script,
-        20,
-        &levels::asking(low, high, out, meeting(short, e300, e7)),
-    );
-    join(&mut script, 38, &levels::barring(low, high, top));
-    script
-}
-
 // The script over levels, then once more with too few places for answers.
 fn play_levels(rt: &HostRuntime) -> io::Result<()> {
-    let mut quantities = [no_quantity(0); 16];
-    let mut rows = [no_row(); 16];
-    let mut entries = [Entry::Any; 384];
-    let mut results = [Figure { value: 0 }; 17];
-    let mut lists: Lists<'_, Measure, Figure> = Lists {
-        quantities: &mut quantities,
-        rows: &mut rows,
-        entries: &mut entries,
-        results: &mut results,
-    };
-    let mut a = [0; 16];
-    let mut b = [0; 16];
-    let mut pair = [0; 16];
-    let mut at = Showing {
-        a: &mut a,
-        b: &mut b,
-        pair: &mut pair,
-    };
-    let e3 = [3; 16];
-    let e7 = [7; 16];
-    let e15 = [100; 15];
-    let e100 = [100; 16];
-    let e300 = [300; 16];
-    let e650 = [650; 16];
-    let e700 = [700; 16];
-    let script = level_script(&e3, &e7, &e15, &e100, &e300, &e650, &e700);
-    let mut answers = [Answer::NotAllowed; 58];
-    let mut few = [Answer::NotAllowed; 57];
+    let mut memory: SheetMemory<Measure, Figure> = SheetMemory::new(0, Figure { value: 0 });
+    let mut encounter = EncounterMemory::new(0);
+    let lists = &mut memory.lend();
+    let at = &mut encounter.lend();
+    let script = levels::script(rt.alloc())?;
     println!(rt; "levels")?;
-    play(rt, &script, &mut lists, &mut at, &mut answers)?;
-    play(rt, &script, &mut lists, &mut at, &mut few)
+    play(rt, &script, lists, at, &mut [Answer::NotAllowed; 58])?;
+    play(rt, &script, lists, at, &mut [Answer::NotAllowed; 57])
 }
 
 // A script on lists of which one is not of right length.
 fn play_short(rt: &HostRuntime) -> io::Result<()> {
-    let mut quantities = [no_quantity(0); 16];
-    let mut rows = [no_row(); 15];
-    let mut entries = [Entry::Any; 384];
-    let mut results = [Figure { value: 0 }; 17];
+    let mut memory: SheetMemory<Measure, Figure> = SheetMemory::new(0, Figure { value: 0 });
+    let mut encounter = EncounterMemory::new(0);
+    let Lists {
+        quantities,
+        rows,
+        entries,
+        results,
+    } = memory.lend();
     let mut lists: Lists<'_, Measure, Figure> = Lists {
-        quantities: &mut quantities,
-        rows: &mut rows,
-        entries: &mut entries,
-        results: &mut results,
+        quantities,
+        rows: &mut rows[..15],
+        entries,
+        results,
     };
-    let mut a = [0; 16];
-    let mut b = [0; 16];
-    let mut pair = [0; 16];
-    let mut at = Showing {
-        a: &mut a,
-        b: &mut b,
-        pair: &mut pair,
-    };
-    let e0 = [0; 16];
-    let script = levels::writing(meeting(&e0, &e0, &e0));
-    let mut answers = [Answer::NotAllowed; 20];
-    play(rt, &script, &mut lists, &mut at, &mut answers)
+    let at = &mut encounter.lend();
+    let script = levels::writing();
+    play(rt, &script, &mut lists, at, &mut [Answer::NotAllowed; 20])
 }
 
 // The script over names.
 fn play_names(rt: &HostRuntime) -> io::Result<()> {
-    let mut quantities = [no_quantity(0); 16];
-    let mut rows = [no_row(); 16];
-    let mut entries = [Entry::Any; 384];
-    let mut results = [Period { from: 0, to: 0 }; 17];
-    let mut lists: Lists<'_, Names, Period> = Lists {
-        quantities: &mut quantities,
-        rows: &mut rows,
-        entries: &mut entries,
-        results: &mut results,
-    };
-    let mut a = [0; 16];
-    let mut b = [0; 16];
-    let mut pair = [0; 16];
-    let mut at = Showing {
-        a: &mut a,
-        b: &mut b,
-        pair: &mut pair,
-    };
-    let e0 = [0; 16];
-    let e1 = [1; 16];
-    let e2 = [2; 16];
-    let neither = meeting(&e0, &e0, &e0);
-    let one = meeting(&e1, &e0, &e0);
-    let mut script = [Call::Issue; 46];
-    join(
-        &mut script,
-        0,
-        &periods::barring(neither, one, meeting(&e2, &e0, &e0)),
-    );
-    join(&mut script, 24, &periods::counting(one));
-    let mut answers = [Answer::NotAllowed; 48];
+    let mut memory: SheetMemory<Names, Period> = SheetMemory::new(0, Period { from: 0, to: 0 });
+    let mut encounter = EncounterMemory::new(0);
+    let lists = &mut memory.lend();
+    let at = &mut encounter.lend();
+    let script = periods::script(rt.alloc())?;
     println!(rt; "names")?;
-    play(rt, &script, &mut lists, &mut at, &mut answers)
+    play(rt, &script, lists, at, &mut [Answer::NotAllowed; 48])
 }
 
 fn main(rt: HostRuntime) -> io::Result<()> {

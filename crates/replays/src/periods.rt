@@ -6,8 +6,28 @@ use lists::lent::Encounter;
 use names::NameSet;
 use replay::script::Call;
 use results::period::Period;
+use std::alloc::{AllocError, Global};
 
-pub type NameCall<'a> = Call<'a, u32, NameSet, Period>;
+type NameCall = Call<'static, u32, NameSet, Period>;
+
+// Encounters of flights without a name, and of one flight with the name 1 or 2.
+const NEITHER: Encounter<'static, u32> = Encounter {
+    a: &[0; 16],
+    b: &[0; 16],
+    pair: &[0; 16],
+};
+
+const ONE: Encounter<'static, u32> = Encounter {
+    a: &[1; 16],
+    b: &[0; 16],
+    pair: &[0; 16],
+};
+
+const OTHER: Encounter<'static, u32> = Encounter {
+    a: &[2; 16],
+    b: &[0; 16],
+    pair: &[0; 16],
+};
 
 fn period(from: i32, to: i32) -> Period {
     Period { from, to }
@@ -19,18 +39,14 @@ fn of(bits: u32) -> Entry<NameSet> {
 
 // A sheet without quantities; then a never of flight A alone is an asymmetry, and one of each
 // flight is none.
-pub fn barring<'a>(
-    neither: Encounter<'a, u32>,
-    one: Encounter<'a, u32>,
-    other: Encounter<'a, u32>,
-) -> [NameCall<'a>; 24] {
+fn barring() -> [NameCall; 24] {
     [
         Call::Issue,
         default(period(-700, 0)),
         default(period(15, -15)),
         default(period(-15, 15)),
         Call::Issue,
-        Call::LookUp(neither),
+        Call::LookUp(NEITHER),
         default(period(0, 0)),
         Call::Withdraw,
         name(Scope::Flight, 0, 32),
@@ -45,16 +61,16 @@ pub fn barring<'a>(
         Call::Issue,
         set(1, 17, of(2)),
         Call::Issue,
-        Call::LookUp(neither),
-        Call::LookUp(one),
-        Call::LookUp(one.exchanged()),
-        Call::LookUp(other),
+        Call::LookUp(NEITHER),
+        Call::LookUp(ONE),
+        Call::LookUp(ONE.exchanged()),
+        Call::LookUp(OTHER),
     ]
 }
 
 // Two columns that bear the same result are no clash. Cells with a stop at every name make too many
 // encounters.
-pub fn counting<'a>(one: Encounter<'a, u32>) -> [NameCall<'a>; 22] {
+fn counting() -> [NameCall; 22] {
     let every_other = 0x5555_5555;
     [
         Call::Withdraw,
@@ -77,7 +93,15 @@ pub fn counting<'a>(one: Encounter<'a, u32>) -> [NameCall<'a>; 22] {
         set(2, 0, Entry::Any),
         set(3, 0, Entry::Any),
         Call::Issue,
-        Call::LookUp(one),
+        Call::LookUp(ONE),
         Call::Withdraw,
     ]
+}
+
+// The two parts of the script.
+pub fn script(alloc: Global) -> Result<Vec<NameCall>, AllocError> {
+    let mut script = Vec::new(alloc);
+    script.extend_from_slice(&barring())?;
+    script.extend_from_slice(&counting())?;
+    Ok(script)
 }

@@ -3,59 +3,42 @@ use faults::{LookupFault, SheetFault};
 use items::{Counts, Entry, Mode, Quantity, Row, Scope, Side};
 use kinds::Kind;
 use lists::lent::Lists;
-use lists::places::nth;
 use measure::Band;
 use names::NameSet;
 use replay::script::Answer;
 use results::figure::Figure;
 use results::period::Period;
+use std::fmt::Display;
 use std::io;
 
-// What can be printed: values, cells and results.
+// How this program prints cells and results.
+// No `Display`: that belongs to the crates of these types, which print nothing.
 pub trait Told: Copy {
     fn tell(self, rt: &HostRuntime) -> io::Result<()>;
-}
-
-impl Told for i32 {
-    fn tell(self, rt: &HostRuntime) -> io::Result<()> {
-        print!(rt; "{self}")
-    }
-}
-
-impl Told for u32 {
-    fn tell(self, rt: &HostRuntime) -> io::Result<()> {
-        print!(rt; "{self}")
-    }
 }
 
 impl Told for Band {
     fn tell(self, rt: &HostRuntime) -> io::Result<()> {
         let sign = if self.inside { "" } else { "!" };
-        let lo = self.lo;
-        let hi = self.hi;
-        print!(rt; "{sign}{lo}..{hi}")
+        print!(rt; "{sign}{}..{}", self.lo, self.hi)
     }
 }
 
 impl Told for NameSet {
     fn tell(self, rt: &HostRuntime) -> io::Result<()> {
-        let bits = self.bits;
-        print!(rt; "bits {bits}")
+        print!(rt; "bits {}", self.bits)
     }
 }
 
 impl Told for Figure {
     fn tell(self, rt: &HostRuntime) -> io::Result<()> {
-        let value = self.value;
-        print!(rt; "{value}")
+        print!(rt; "{}", self.value)
     }
 }
 
 impl Told for Period {
     fn tell(self, rt: &HostRuntime) -> io::Result<()> {
-        let from = self.from;
-        let to = self.to;
-        print!(rt; "{from} to {to}")
+        print!(rt; "{} to {}", self.from, self.to)
     }
 }
 
@@ -85,8 +68,7 @@ fn tell_fault(rt: &HostRuntime, fault: SheetFault) -> io::Result<()> {
             println!(rt; "refused {number}: columns {lowest} and {other}")
         }
         SheetFault::Lookup(LookupFault::OutOfRange { side, quantity }) => {
-            let side = side_word(side);
-            println!(rt; "refused {number}: {side} {quantity}")
+            println!(rt; "refused {number}: {} {quantity}", side_word(side))
         }
         _ => println!(rt; "refused {number}"),
     }
@@ -115,7 +97,7 @@ pub fn tell_answers<R: Told>(rt: &HostRuntime, answers: &[Answer<R>]) -> io::Res
     Ok(())
 }
 
-fn tell_quantities<V: Told>(
+fn tell_quantities<V: Display>(
     rt: &HostRuntime,
     n: usize,
     quantities: &[Quantity<V>],
@@ -125,20 +107,21 @@ fn tell_quantities<V: Told>(
             Scope::Flight => "flight",
             Scope::Pair => "pair",
         };
-        print!(rt; "quantity {i}: {scope} ")?;
-        quantity.least.tell(rt)?;
-        print!(rt; " to ")?;
-        quantity.greatest.tell(rt)?;
-        println!(rt; "")?;
+        println!(rt;
+            "quantity {i}: {scope} {} to {}",
+            quantity.least, quantity.greatest
+        )?;
     }
     Ok(())
 }
 
 fn tell_rows(rt: &HostRuntime, n: usize, rows: &[Row]) -> io::Result<()> {
     for (i, row) in rows.iter().take(n).enumerate() {
-        let quantity = row.quantity;
-        let mode = mode_word(row.mode);
-        println!(rt; "row {i}: quantity {quantity} {mode}")?;
+        println!(rt;
+            "row {i}: quantity {} {}",
+            row.quantity,
+            mode_word(row.mode)
+        )?;
     }
     Ok(())
 }
@@ -151,7 +134,7 @@ fn tell_entries<C: Told>(
     column: usize,
 ) -> io::Result<()> {
     for row in entries.chunks(24).take(n) {
-        match nth(row, column) {
+        match row.get(column) {
             Some(Entry::Cell(cell)) => {
                 print!(rt; " ")?;
                 cell.tell(rt)?;
@@ -178,12 +161,9 @@ fn tell_columns<C: Told, R: Told>(
 }
 
 fn tell_nevers<C: Told>(rt: &HostRuntime, counts: Counts, entries: &[Entry<C>]) -> io::Result<()> {
-    for column in 16..24 {
-        if column - 16 < counts.nevers {
-            let n = column - 16;
-            print!(rt; "never {n}:")?;
-            tell_entries(rt, counts.rows, entries, column)?;
-        }
+    for (n, column) in (16..24).take(counts.nevers).enumerate() {
+        print!(rt; "never {n}:")?;
+        tell_entries(rt, counts.rows, entries, column)?;
     }
     Ok(())
 }
@@ -195,19 +175,19 @@ pub fn tell_contents<K: Kind, R: Told>(
     lists: &Lists<'_, K, R>,
 ) -> io::Result<()>
 where
-    K::Value: Told,
+    K::Value: Display,
     K::Cell: Told,
 {
     tell_quantities(rt, counts.quantities, lists.quantities)?;
     tell_rows(rt, counts.rows, lists.rows)?;
     tell_columns(rt, counts, lists.entries, lists.results)?;
     tell_nevers(rt, counts, lists.entries)?;
-    if counts.default {
-        if let Some(result) = nth(lists.results, 16) {
-            print!(rt; "default ")?;
-            result.tell(rt)?;
-            println!(rt; "")?;
-        }
+    if counts.default
+        && let Some(result) = lists.results.get(16)
+    {
+        print!(rt; "default ")?;
+        result.tell(rt)?;
+        println!(rt; "")?;
     }
     Ok(())
 }

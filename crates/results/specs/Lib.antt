@@ -1,4 +1,3 @@
 pub mod Results
 pub mod Figures
 pub mod Periods
-pub mod PeriodResultLemmas

@@ -2,13 +2,13 @@
 // equal when both numbers are.
 ghost use Rattle.results.specs.Periods.{periods};
 ghost use Rattle.results.specs.Results.{Plain};
-ghost use Rattle.std.specs.Prelude.{true, refl};
-ghost use Rattle.results.specs.PeriodResultLemmas.{itself, back, on, both, both₂};
+ghost use Rattle.std.proofs.Common.{arith};
+ghost use Rattle.std.proofs.lemmas.Int.{ints};
 
 use crate::ResultKind;
 
 // A period, from one number of minutes to another.
-#[derive(Clone, Copy)]
+#[derive(Clone, Copy, PartialEq, Eq)]
 pub struct Period {
     pub from: i32,
     pub to: i32,
@@ -18,9 +18,9 @@ impl ResultKind for Period {
     ghost results = { periods };
 
     ghost equal = { record {
-      itself = λ x. let p = itself x.from in let q = itself x.to in both true true _ _ (λ _. p) (λ _. q) refl;
-      back = λ x y h. both _ _ _ _ (back x.from y.from) (back x.to y.to) h;
-      on = λ x y z h k. both₂ _ _ _ _ _ _ (on x.from y.from z.from) (on x.to y.to z.to) h k;
+      itself = λ x. Prim.grind (arith, ints);
+      back = λ x y h. Prim.grind (arith, ints);
+      on = λ x y z h k. Prim.grind (arith, ints);
     } };
 
     fn is_lawful(self) -> bool {
@@ -28,13 +28,12 @@ impl ResultKind for Period {
     }
 
     fn same(self, other: Period) -> bool {
-        self.from == other.from && self.to == other.to
+        self == other
     }
 }
 
-// Two periods are equal exactly when they are the same period.
-pub fn periods_are_plain() -> u8
+// Two periods are equal exactly when they are the same period. The contract names the kind's meaning,
+// so each kind of result has such a function.
+pub fn periods_are_plain()
     ensures { Plain periods }
-{
-    0
-}
+{}

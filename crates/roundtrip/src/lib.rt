@@ -4,9 +4,7 @@
 
 #[cfg(test)]
 mod tests {
-    use house::Cell;
     use items::Entry;
-    use lexer::words::is;
     use lines::cursor::Fields;
     use lines::lines::{column_line, row_line};
     use text::types::Placed;
@@ -21,6 +19,21 @@ mod tests {
         };
         let _word = fields.next_field();
         fields
+    }
+
+    // No places yet of the entries of a line.
+    fn no_places() -> [Placed; 16] {
+        [Placed {
+            entry: Entry::Any,
+            byte: 0,
+        }; 16]
+    }
+
+    // Whether a line and its end are what is written up to a place.
+    fn is_written(out: &[u8], end: Option<usize>, line: &[u8]) -> bool {
+        end.and_then(|end| out.get(..end))
+            .and_then(|written| written.split_last())
+            .is_some_and(|(_, text)| text == line)
     }
 
     // The byte at which a row's line is refused, or 0.
@@ -39,24 +52,16 @@ mod tests {
             return false;
         };
         let mut out = [0; 64];
-        let mut writer = Writer::new(&mut out);
-        writer.row(said.row);
-        if !writer.start() {
-            return false;
-        }
+        let mut writer = Writer::<true>::new(&mut out);
         writer.row(said.row);
         let end = writer.at;
-        end <= out.len() && 0 < end && is(&out[0..end - 1], line)
+        is_written(&out, end, line)
     }
 
     // The byte at which the line of a column of five entries is refused, or 0.
     fn column_refused(line: &[u8]) -> usize {
-        let mut places = [Placed {
-            entry: Entry::Any,
-            byte: 0,
-        }; 16];
         let mut fields = after_word(line);
-        match column_line(&mut fields, 5, &mut places) {
+        match column_line(&mut fields, 5, &mut no_places()) {
             Ok(_) => 0,
             Err(byte) => byte,
         }
@@ -64,30 +69,17 @@ mod tests {
 
     // Whether the line of a column of five entries is written as it was read.
     fn column_again(line: &[u8]) -> bool {
-        let mut places = [Placed {
-            entry: Entry::Any,
-            byte: 0,
-        }; 16];
+        let mut places = no_places();
         let mut fields = after_word(line);
         let Ok(result) = column_line(&mut fields, 5, &mut places) else {
             return false;
         };
-        let entries: [Entry<Cell>; 5] = [
-            places[0].entry,
-            places[1].entry,
-            places[2].entry,
-            places[3].entry,
-            places[4].entry,
-        ];
+        let entries = places.map(|placed| placed.entry);
         let mut out = [0; 64];
-        let mut writer = Writer::new(&mut out);
-        writer.column(result, &entries);
-        if !writer.start() {
-            return false;
-        }
-        writer.column(result, &entries);
+        let mut writer = Writer::<true>::new(&mut out);
+        writer.column(result, &entries[..5]);
         let end = writer.at;
-        end <= out.len() && 0 < end && is(&out[0..end - 1], line)
+        is_written(&out, end, line)
     }
 
     #[test]
@@ -118,50 +110,52 @@ mod tests {
 #[cfg(test)]
 mod pages_again {
     use house::measure_value;
-    use items::{Entry, Mode, Quantity, Row, Scope};
-    use lexer::words::is;
-    use lists::lent::Lists;
+    use memory::sheet::SheetMemory;
+    use page_faults::{PageRefusal, WriteFault};
     use reading::reading::read;
     use results::figure::Figure;
     use writing::writing::write;
 
-    // Reads a page and writes its sheet: the length of what is written, or a refusal's number.
-    fn rewrite(page: &[u8], out: &mut [u8]) -> Result<usize, u8> {
-        let none = measure_value(0);
-        let mut quantities = [Quantity {
-            scope: Scope::Pair,
-            least: none,
-            greatest: none,
-        }; 16];
-        let mut rows = [Row {
-            quantity: 0,
-            mode: Mode::Pair,
-        }; 16];
-        let mut entries = [Entry::Any; 384];
-        let mut results = [Figure { value: 0 }; 17];
-        let mut lists = Lists {
-            quantities: &mut quantities,
-            rows: &mut rows,
-            entries: &mut entries,
-            results: &mut results,
-        };
-        match read(page, &mut lists) {
-            Ok(draft) => match write(&draft, &lists, out) {
-                Ok(length) => Ok(length),
-                Err(fault) => Err(fault.number()),
-            },
-            Err(refusal) => Err(refusal.fault.number()),
+    // Why a page is not written back.
+    #[derive(Clone, Copy)]
+    enum Fault {
+        Read(PageRefusal),
+        Write(WriteFault),
+    }
+
+    impl From<PageRefusal> for Fault {
+        fn from(refusal: PageRefusal) -> Fault {
+            Fault::Read(refusal)
         }
+    }
+
+    impl From<WriteFault> for Fault {
+        fn from(fault: WriteFault) -> Fault {
+            Fault::Write(fault)
+        }
+    }
+
+    impl Fault {
+        // The number by which users know the refusal.
+        fn number(self) -> u8 {
+            match self {
+                Fault::Read(refusal) => refusal.fault.number(),
+                Fault::Write(fault) => fault.number(),
+            }
+        }
+    }
+
+    // Reads a page and writes its sheet: the length of what is written.
+    fn rewrite(page: &[u8], out: &mut [u8]) -> Result<usize, Fault> {
+        let mut memory = SheetMemory::new(measure_value(0), Figure { value: 0 });
+        let mut lists = memory.lend();
+        let draft = read(page, &mut lists)?;
+        Ok(write(&draft, &lists, out)?)
     }
 
     // Do all bytes of a buffer have the value?
     fn all_are(buffer: &[u8], value: u8) -> bool {
-        for b in buffer {
-            if *b != value {
-                return false;
-            }
-        }
-        true
+        buffer.iter().all(|b| *b == value)
     }
 
     // Is the page written as it was read, and are the bytes after it as they were?
@@ -170,15 +164,15 @@ mod pages_again {
         let Ok(length) = rewrite(page, &mut out) else {
             return false;
         };
-        length <= out.len() && is(&out[0..length], page) && all_are(&out[length..out.len()], 7)
+        out.split_at_checked(length)
+            .is_some_and(|(text, rest)| text == page && all_are(rest, 7))
     }
 
     // Is the page refused for a buffer of 7s that is one byte too short, which is left as it was?
     fn is_refused(page: &[u8], out: &mut [u8]) -> bool {
-        match rewrite(page, out) {
-            Ok(_) => false,
-            Err(number) => number == 28 && out.len() < page.len() && all_are(out, 7),
-        }
+        rewrite(page, out).is_err_and(|fault| fault.number() == 28)
+            && out.len() < page.len()
+            && all_are(out, 7)
     }
 
     const EMPTY: &[u8] = b"end\n";

@@ -15,16 +15,12 @@ use kinds::Kind;
 use results::ResultKind;
 
 // An opened draft stands for no calls, whatever lists of right length hold.
-pub fn an_opened_draft_stands_for_no_calls<K: Kind, R: ResultKind>() -> u8
+pub fn an_opened_draft_stands_for_no_calls<K: Kind, R: ResultKind>()
     ensures { (l : Lists K.Value K.Cell R) → RightLengths l → Stands K.Kind.meaning R.ResultKind.results [] draft (opened_on l).counts l }
-{
-    0
-}
+{}
 
 // Of a sheet that stands for some calls, the first question of the next call is answered yes.
-pub fn a_sheet_that_stands_is_in_order<K: Kind, R: ResultKind>() -> u8
+pub fn a_sheet_that_stands_is_in_order<K: Kind, R: ResultKind>()
     ensures { (calls : List (Call K.Value K.Cell R)) (s : Status) (n : Counts) (l : Lists K.Value K.Cell R)
         → Stands K.Kind.meaning R.ResultKind.results calls s n l → in_order K.Kind.meaning R.ResultKind.results n l ≡ true }
-{
-    0
-}
+{}

@@ -4,19 +4,16 @@ use Rattle.std.specs.Option.{option_map}
 use Rattle.std.proofs.lemmas.Bool.{both_ways, or_parts, cond-true, cond-false, cond_both}
 use Rattle.faults.specs.declared.SheetFault.{SheetFault}
 use Rattle.faults.specs.declared.SheetFault.TheVariants.{EncounterLists, TooManyEncounters, AllBarred, Gap as GapFault, Asymmetry as AsymmetryFault}
-use Rattle.kinds.specs.Meaning.{Meaning, Lawful}
+use Rattle.kinds.specs.Meaning.{Meaning}
 use Rattle.results.specs.Results.{Results}
 use Rattle.tables.specs.Words.{first, or_else}
 use Rattle.tables.specs.Contents.{Contents, Encounter, places, whole}
-use Rattle.tables.specs.Acceptance.{Acceptable}
 use Rattle.tables.specs.Outcomes.{Outcome, barred, gap, clash, answer, outcome, is_barred, is_gap, is_clash, symmetric}
 use Rattle.tables.specs.Starts.{count, from_starts, reset}
 use Rattle.tables.specs.Issues.{Issue, too_many, short_lists, all_barred, shown_gap, shown_asymmetry, accepted, answered, written, limit, if_gap, if_clash, gap_at, clash_at, asymmetry_at, every_barred, examined, issue}
 use Rattle.tables.proofs.Lists.{none-some, some_same}
 use Rattle.starts.specs.Counted.{within_limit}
-use Rattle.seeking.specs.declared.sought.Sought.TheVariants.{Open, Gap, Clash, Asymmetry, Fault}
-use Rattle.seeking.specs.Seeks.{first_of, sought_in, clash_fault, Found, Ended}
-use Rattle.seeking.proofs.Seeking.{same-starts}
+use Rattle.seeking.specs.Seeks.{first_of, open_in, gap_in, clash_in, asymmetry_in, fault_in, clash_fault, Found, Ended}
 
 ended_some : {X : Type 0} (o : Option X) (b : Bool) (x l : X) → b ≡ is_some o → x ≡ unwrap_or o l → b ≡ true → o ≡ Some x
 ended_some None b x l t s h = absurd (both_ways b t h)
@@ -42,9 +39,9 @@ not-if true t e o h = h
 not-if false t e o h = refl
 
 module _ {V C R : Type 0} (m : Meaning V C) (r : Results R) (c : Contents V C R) where
-  every-is : (es : List (Encounter V)) → every_barred m r c es ≡ not (is_some (first_of (sought_in m r c Open) es))
+  every-is : (es : List (Encounter V)) → every_barred m r c es ≡ not (is_some (first_of (open_in m r c) es))
   every-is [] = refl
-  every-is (e ∷ es) = not-if (is_barred r (outcome m r c e)) (every_barred m r c es) e (first_of (sought_in m r c Open) es) (every-is es)
+  every-is (e ∷ es) = not-if (is_barred r (outcome m r c e)) (every_barred m r c es) e (first_of (open_in m r c) es) (every-is es)
 
   gap-if : (o : Outcome R) (e : Encounter V) {x : Option (Issue V)} (y : Option (Encounter V)) → x ≡ option_map shown_gap y → or_else (if_gap e o) x ≡ option_map shown_gap (cond (is_gap r o) (Some e) y)
   gap-if barred e y h = h
@@ -52,9 +49,9 @@ module _ {V C R : Type 0} (m : Meaning V C) (r : Results R) (c : Contents V C R)
   gap-if (clash i j) e y h = h
   gap-if (answer x) e y h = h
 
-  gap_is : (es : List (Encounter V)) → first (gap_at m r c) es ≡ option_map shown_gap (first_of (sought_in m r c Gap) es)
+  gap_is : (es : List (Encounter V)) → first (gap_at m r c) es ≡ option_map shown_gap (first_of (gap_in m r c) es)
   gap_is [] = refl
-  gap_is (e ∷ es) = gap-if (outcome m r c e) e (first_of (sought_in m r c Gap) es) (gap_is es)
+  gap_is (e ∷ es) = gap-if (outcome m r c e) e (first_of (gap_in m r c) es) (gap_is es)
 
   abbrev clash_on : Option (Encounter V) → Option (Issue V)
   clash_on None = None
@@ -66,35 +63,35 @@ module _ {V C R : Type 0} (m : Meaning V C) (r : Results R) (c : Contents V C R)
   clash-if (clash i j) e y is h = sym (ap (if_clash e) is)
   clash-if (answer x) e y is h = h
 
-  clash-is : (es : List (Encounter V)) → first (clash_at m r c) es ≡ clash_on (first_of (sought_in m r c Clash) es)
+  clash-is : (es : List (Encounter V)) → first (clash_at m r c) es ≡ clash_on (first_of (clash_in m r c) es)
   clash-is [] = refl
-  clash-is (e ∷ es) = clash-if (outcome m r c e) e (first_of (sought_in m r c Clash) es) refl (clash-is es)
+  clash-is (e ∷ es) = clash-if (outcome m r c e) e (first_of (clash_in m r c) es) refl (clash-is es)
 
   asymmetry-if : (b : Bool) (e : Encounter V) {x : Option (Issue V)} (y : Option (Encounter V)) → x ≡ option_map shown_asymmetry y → or_else (cond b None (Some (shown_asymmetry e))) x ≡ option_map shown_asymmetry (cond (not b) (Some e) y)
   asymmetry-if true e y h = h
   asymmetry-if false e y h = refl
 
-  asymmetry-is : (es : List (Encounter V)) → first (asymmetry_at m r c) es ≡ option_map shown_asymmetry (first_of (sought_in m r c Asymmetry) es)
+  asymmetry-is : (es : List (Encounter V)) → first (asymmetry_at m r c) es ≡ option_map shown_asymmetry (first_of (asymmetry_in m r c) es)
   asymmetry-is [] = refl
-  asymmetry-is (e ∷ es) = asymmetry-if (symmetric m r c e) e (first_of (sought_in m r c Asymmetry) es) (asymmetry-is es)
+  asymmetry-is (e ∷ es) = asymmetry-if (symmetric m r c e) e (first_of (asymmetry_in m r c) es) (asymmetry-is es)
 
   -- the answer from the first of each that is sought
   abbrev decided : Option (Encounter V) → Option (Encounter V) → Option (Encounter V) → Option (Encounter V) → Issue V
   decided o g k a = cond (not (is_some o)) all_barred (unwrap_or (option_map shown_gap g) (unwrap_or (clash_on k) (unwrap_or (option_map shown_asymmetry a) (accepted (count m c)))))
 
   module _ (es : List (Encounter V)) where
-    decided-is : examined m r c es ≡ decided (first_of (sought_in m r c Open) es) (first_of (sought_in m r c Gap) es) (first_of (sought_in m r c Clash) es) (first_of (sought_in m r c Asymmetry) es)
+    decided-is : examined m r c es ≡ decided (first_of (open_in m r c) es) (first_of (gap_in m r c) es) (first_of (clash_in m r c) es) (first_of (asymmetry_in m r c) es)
     decided-is =
         ap (λ b. cond b all_barred (unwrap_or (first (gap_at m r c) es) (unwrap_or (first (clash_at m r c) es) (unwrap_or (first (asymmetry_at m r c) es) (accepted (count m c)))))) (every-is es)
-        ∙ ap (λ g. cond (not (is_some (first_of (sought_in m r c Open) es))) all_barred (unwrap_or g (unwrap_or (first (clash_at m r c) es) (unwrap_or (first (asymmetry_at m r c) es) (accepted (count m c)))))) (gap_is es)
-        ∙ ap (λ k. cond (not (is_some (first_of (sought_in m r c Open) es))) all_barred (unwrap_or (option_map shown_gap (first_of (sought_in m r c Gap) es)) (unwrap_or k (unwrap_or (first (asymmetry_at m r c) es) (accepted (count m c)))))) (clash-is es)
-        ∙ ap (λ a. cond (not (is_some (first_of (sought_in m r c Open) es))) all_barred (unwrap_or (option_map shown_gap (first_of (sought_in m r c Gap) es)) (unwrap_or (clash_on (first_of (sought_in m r c Clash) es)) (unwrap_or a (accepted (count m c)))))) (asymmetry-is es)
+        ∙ ap (λ g. cond (not (is_some (first_of (open_in m r c) es))) all_barred (unwrap_or g (unwrap_or (first (clash_at m r c) es) (unwrap_or (first (asymmetry_at m r c) es) (accepted (count m c)))))) (gap_is es)
+        ∙ ap (λ k. cond (not (is_some (first_of (open_in m r c) es))) all_barred (unwrap_or (option_map shown_gap (first_of (gap_in m r c) es)) (unwrap_or k (unwrap_or (first (asymmetry_at m r c) es) (accepted (count m c)))))) (clash-is es)
+        ∙ ap (λ a. cond (not (is_some (first_of (open_in m r c) es))) all_barred (unwrap_or (option_map shown_gap (first_of (gap_in m r c) es)) (unwrap_or (clash_on (first_of (clash_in m r c) es)) (unwrap_or a (accepted (count m c)))))) (asymmetry-is es)
 
-    settled : {o g k a : Option (Encounter V)} → first_of (sought_in m r c Open) es ≡ o → first_of (sought_in m r c Gap) es ≡ g → first_of (sought_in m r c Clash) es ≡ k → first_of (sought_in m r c Asymmetry) es ≡ a → examined m r c es ≡ decided o g k a
+    settled : {o g k a : Option (Encounter V)} → first_of (open_in m r c) es ≡ o → first_of (gap_in m r c) es ≡ g → first_of (clash_in m r c) es ≡ k → first_of (asymmetry_in m r c) es ≡ a → examined m r c es ≡ decided o g k a
     settled {o} {g} {k} {a} ho hg hk ha =
-        decided-is ∙ ap (λ o. decided o (first_of (sought_in m r c Gap) es) (first_of (sought_in m r c Clash) es) (first_of (sought_in m r c Asymmetry) es)) ho
-        ∙ ap (λ g. decided o g (first_of (sought_in m r c Clash) es) (first_of (sought_in m r c Asymmetry) es)) hg
-        ∙ ap (λ k. decided o g k (first_of (sought_in m r c Asymmetry) es)) hk
+        decided-is ∙ ap (λ o. decided o (first_of (gap_in m r c) es) (first_of (clash_in m r c) es) (first_of (asymmetry_in m r c) es)) ho
+        ∙ ap (λ g. decided o g (first_of (clash_in m r c) es) (first_of (asymmetry_in m r c) es)) hg
+        ∙ ap (λ k. decided o g k (first_of (asymmetry_in m r c) es)) hk
         ∙ ap (λ a. decided o g k a) ha
 
   abbrev FoundBy : Encounter V → Issue V → Encounter V → Issue V → Type 0
@@ -128,7 +125,7 @@ module _ {V C R : Type 0} (m : Meaning V C) (r : Results R) (c : Contents V C R)
       ))
       (λ _ k. none-some n (sym k)) e
 
-  module _ (law : Lawful m) (ok : Acceptable m r c) (lent : Encounter V) (w : whole lent ≡ true) where
+  module _ (lent : Encounter V) where
     abbrev es : List (Encounter V)
     es = from_starts m c lent
 
@@ -138,58 +135,52 @@ module _ {V C R : Type 0} (m : Meaning V C) (r : Results R) (c : Contents V C R)
     abbrev pub Sought : (Encounter V → Bool) → Bool → Encounter V → Type 0
     Sought f b e = Ended m c f es least b e
 
-    -- a seek from where another one ended
-    pub again : (f g : Encounter V → Bool) (b t : Bool) (x e : Encounter V) → Sought f b x → Ended m c g (from_starts m c x) (reset m c (places c) x) t e → Sought g t e
-    again f g b t x e h k =
-        subst (λ s. Ended m c g s least t e) (same-starts m law r c ok lent x w h.lengths h.others)
-        (subst (λ l. Ended m c g (from_starts m c x) l t e) h.others k)
-
     some : {f : Encounter V → Bool} {b : Bool} {e : Encounter V} → Sought f b e → b ≡ true → first_of f es ≡ Some e
     some {f} {b} {e} h there = ended_some (first_of f es) b e least h.told h.shows there
 
     none : {f : Encounter V → Bool} {b : Bool} {e : Encounter V} → Sought f b e → b ≡ false → (first_of f es ≡ None) × (e ≡ least)
     none {f} {b} {e} h gone = ended-none (first_of f es) b e least h.told h.shows gone
 
-    pub barred-found : {b : Bool} {e : Encounter V} → Sought (sought_in m r c Open) b e → b ≡ false → Found m r c lent (examined m r c es) (Err AllBarred) e
+    pub barred-found : {b : Bool} {e : Encounter V} → Sought (open_in m r c) b e → b ≡ false → Found m r c lent (examined m r c es) (Err AllBarred) e
     barred-found {b} {e} h gone =
         found lent (examined m r c es) all_barred e (settled es (none h gone).0 refl refl refl) (none h gone).1
 
-    pub gap-found : {b t : Bool} {x e : Encounter V} → Sought (sought_in m r c Open) b x → b ≡ true → Sought (sought_in m r c Gap) t e → t ≡ true → Found m r c lent (examined m r c es) (Err GapFault) e
+    pub gap-found : {b t : Bool} {x e : Encounter V} → Sought (open_in m r c) b x → b ≡ true → Sought (gap_in m r c) t e → t ≡ true → Found m r c lent (examined m r c es) (Err GapFault) e
     gap-found {e = e} h there k is = found lent (examined m r c es) (shown_gap e) e (settled es (some h there) (some k is) refl refl) refl
 
-    pub clash-shown : {b t u : Bool} {x y e : Encounter V} {f : SheetFault} → Sought (sought_in m r c Open) b x → b ≡ true → Sought (sought_in m r c Gap) t y → t ≡ false → Sought (sought_in m r c Clash) u e → u ≡ true
+    pub clash-shown : {b t u : Bool} {x y e : Encounter V} {f : SheetFault} → Sought (open_in m r c) b x → b ≡ true → Sought (gap_in m r c) t y → t ≡ false → Sought (clash_in m r c) u e → u ≡ true
         → f ≡ clash_fault (outcome m r c e) → Found m r c lent (examined m r c es) (Err f) e
     clash-shown {e = e} h there k gone l is named =
-        let d : Issue V = unwrap_or (option_map shown_asymmetry (first_of (sought_in m r c Asymmetry) es)) (accepted (count m c)) in
+        let d : Issue V = unwrap_or (option_map shown_asymmetry (first_of (asymmetry_in m r c) es)) (accepted (count m c)) in
         let at : examined m r c es ≡ unwrap_or (if_clash e (outcome m r c e)) d = settled es (some h there) (none k gone).0 (some l is) refl in
-        let t = clash-found lent (outcome m r c e) e d (first_holds (sought_in m r c Clash) es e (some l is)) in
+        let t = clash-found lent (outcome m r c e) e d (first_holds (clash_in m r c) es e (some l is)) in
         record { answer = ap Err named ∙ t.0 ∙ sym (ap answered at); writes = t.1 ∙ sym (ap (written m r c lent) at) }
 
-    pub asymmetry-found : {b t u v : Bool} {x y z e : Encounter V} → Sought (sought_in m r c Open) b x → b ≡ true → Sought (sought_in m r c Gap) t y → t ≡ false → Sought (sought_in m r c Clash) u z → u ≡ false
-        → Sought (sought_in m r c Asymmetry) v e → v ≡ true → Found m r c lent (examined m r c es) (Err AsymmetryFault) e
+    pub asymmetry-found : {b t u v : Bool} {x y z e : Encounter V} → Sought (open_in m r c) b x → b ≡ true → Sought (gap_in m r c) t y → t ≡ false → Sought (clash_in m r c) u z → u ≡ false
+        → Sought (asymmetry_in m r c) v e → v ≡ true → Found m r c lent (examined m r c es) (Err AsymmetryFault) e
     asymmetry-found {e = e} h there k gone l out a is = found lent (examined m r c es) (shown_asymmetry e) e (settled es (some h there) (none k gone).0 (none l out).0 (some a is)) refl
 
-    no-fault : {t : Bool} {e : Encounter V} → Sought (sought_in m r c Fault) t e → t ≡ false → (first_of (sought_in m r c Gap) es ≡ None) × (first_of (sought_in m r c Clash) es ≡ None) × (first_of (sought_in m r c Asymmetry) es ≡ None)
+    no-fault : {t : Bool} {e : Encounter V} → Sought (fault_in m r c) t e → t ≡ false → (first_of (gap_in m r c) es ≡ None) × (first_of (clash_in m r c) es ≡ None) × (first_of (asymmetry_in m r c) es ≡ None)
     no-fault k gone =
         let n = (none k gone).0 in
-        let parts : (x : Encounter V) → sought_in m r c Fault x ≡ false → (sought_in m r c Gap x ≡ false) × (sought_in m r c Clash x ≡ false) × (sought_in m r c Asymmetry x ≡ false) = λ x h.
-        let one = or_parts (sought_in m r c Gap x) (sought_in m r c Clash x || sought_in m r c Asymmetry x) h in
-        let two = or_parts (sought_in m r c Clash x) (sought_in m r c Asymmetry x) one.1 in
+        let parts : (x : Encounter V) → fault_in m r c x ≡ false → (gap_in m r c x ≡ false) × (clash_in m r c x ≡ false) × (asymmetry_in m r c x ≡ false) = λ x h.
+        let one = or_parts (gap_in m r c x) (clash_in m r c x || asymmetry_in m r c x) h in
+        let two = or_parts (clash_in m r c x) (asymmetry_in m r c x) one.1 in
         (one.0, two.0, two.1) in (
-          none-weaker (sought_in m r c Fault) (sought_in m r c Gap) (λ x h. (parts x h).0) es n,
-          none-weaker (sought_in m r c Fault) (sought_in m r c Clash) (λ x h. (parts x h).1) es n,
-          none-weaker (sought_in m r c Fault) (sought_in m r c Asymmetry) (λ x h. (parts x h).2) es n,
+          none-weaker (fault_in m r c) (gap_in m r c) (λ x h. (parts x h).0) es n,
+          none-weaker (fault_in m r c) (clash_in m r c) (λ x h. (parts x h).1) es n,
+          none-weaker (fault_in m r c) (asymmetry_in m r c) (λ x h. (parts x h).2) es n,
         )
 
     -- one way through all of them, on which there is no fault
-    pub faultless-found : {b t : Bool} {x e : Encounter V} (n : ℕ) → n ≡ count m c → Sought (sought_in m r c Open) b x → b ≡ true → Sought (sought_in m r c Fault) t e → t ≡ false → Found m r c lent (examined m r c es) (Ok n) e
+    pub faultless-found : {b t : Bool} {x e : Encounter V} (n : ℕ) → n ≡ count m c → Sought (open_in m r c) b x → b ≡ true → Sought (fault_in m r c) t e → t ≡ false → Found m r c lent (examined m r c es) (Ok n) e
     faultless-found {e = e} n is h there k gone =
         let f = no-fault k gone in
         subst (λ n. Found m r c lent (examined m r c es) (Ok n) e) (sym is)
         (found lent (examined m r c es) (accepted (count m c)) e (settled es (some h there) f.0 f.1 f.2) (none k gone).1)
 
-    pub none_found : {b t u v : Bool} {x y z e : Encounter V} (n : ℕ) → n ≡ count m c → Sought (sought_in m r c Open) b x → b ≡ true → Sought (sought_in m r c Gap) t y → t ≡ false → Sought (sought_in m r c Clash) u z → u ≡ false
-        → Sought (sought_in m r c Asymmetry) v e → v ≡ false → Found m r c lent (examined m r c es) (Ok n) e
+    pub none_found : {b t u v : Bool} {x y z e : Encounter V} (n : ℕ) → n ≡ count m c → Sought (open_in m r c) b x → b ≡ true → Sought (gap_in m r c) t y → t ≡ false → Sought (clash_in m r c) u z → u ≡ false
+        → Sought (asymmetry_in m r c) v e → v ≡ false → Found m r c lent (examined m r c es) (Ok n) e
     none_found {e = e} n is h there k gone l out a end =
         subst (λ n. Found m r c lent (examined m r c es) (Ok n) e) (sym is)
         (found lent (examined m r c es) (accepted (count m c)) e (settled es (some h there) (none k gone).0 (none l out).0 (none a end).0) (none a end).1)

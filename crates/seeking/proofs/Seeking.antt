@@ -9,7 +9,14 @@ use Rattle.tables.specs.Starts.{count, from_starts, onward, reset, advance, rema
 use Rattle.tables.proofs.Placing.{separate, put_whole}
 use Rattle.tables.proofs.Searching.{one_by_one, advance-reset, reset-reset}
 use Rattle.tables.proofs.Making.{made-of-starts}
-use Rattle.seeking.specs.Seeks.{first_of, Ended}
+use Rattle.std.specs.Borrow.{Bor}
+use Rattle.std.specs.Fn.{Shared}
+use Rattle.lists.specs.Held.{encounter_of}
+use Rattle.lists.specs.declared.lent.Encounter.{Encounter as LentEncounter}
+use Rattle.seeking.specs.Seeks.{first_of, Ended, Tests}
+
+pub tested : {F V : Type 0} {g : Shared F (Bor (LentEncounter V) × Unit {0}) Bool} {t : F} (f : Encounter V → Bool) {p : Bor (LentEncounter V)} {b : Bool} → Tests g t f → g.post t (p, tt) b → b ≡ f (encounter_of p.now)
+tested f {p} {b} h is = h p.now b (record { shown = p; shows = refl; says = record { met = is } })
 
 module _ {V C R : Type 0} (m : Meaning V C) (c : Contents V C R) where
   cond-whole : (b : Bool) (s t : Bool × Encounter V) → whole s.1 ≡ true → whole t.1 ≡ true → whole (cond b s t).1 ≡ true

@@ -2,14 +2,14 @@
 // starts.
 ghost use Rattle.std.specs.Prelude.{◌≡◌, true, length};
 ghost use Rattle.lists.specs.Held.{SameShowing, encounter_of, seen, shown};
-ghost use Rattle.seeking.specs.Seeks.{Ended, Found, clash_fault, sought_in};
+ghost use Rattle.seeking.specs.Seeks.{Ended, Found, Tests, clash_fault};
 ghost use Rattle.tables.specs.Acceptance.{Acceptable};
 ghost use Rattle.tables.specs.Contents.{places, whole};
 ghost use Rattle.tables.specs.Issues.{issue, examined};
 ghost use Rattle.tables.specs.Outcomes.{outcome as outcome_in};
 ghost use Rattle.tables.specs.Starts.{count as count_of, from_starts, remaining, reset as reset_of};
 
-use crate::sought::{Sought, is_sought};
+use crate::sought::{is_asymmetric, is_clash, is_faulty, is_gap, is_open};
 use faults::SheetFault;
 use kinds::Kind;
 use lists::lent::{Encounter, Showing};
@@ -22,21 +22,23 @@ use turning::odometer::{reset, turn};
 
 // Goes on from the encounter shown, of which and after which there are `count` in all, to the
 // earliest one that is sought; where there is none, the needed values are at their least.
-fn seek_on<K: Kind, R: ResultKind>(
+fn seek_on<K: Kind, R: ResultKind, F: Fn(&Encounter<'_, K::Value>) -> bool>(
     view: &View<'_, K, R>,
     count: u32,
-    sought: Sought,
+    is_sought: F,
     at: &mut Showing<'_, K::Value>,
 ) -> bool
-    ensures after { Acceptable K.Kind.meaning R.ResultKind.results (seen view.now) → whole (shown at.old) ≡ true
+    requires { F.IsAlwaysCallable is_sought }
+    ensures after { (sought : _) → Tests F.Fn is_sought sought
+        → Acceptable K.Kind.meaning R.ResultKind.results (seen view.now) → whole (shown at.old) ≡ true
         → length (remaining K.Kind.meaning (seen view.now) (places (seen view.now)) (shown at.old)) ≡ count
-        → Ended K.Kind.meaning (seen view.now) (sought_in K.Kind.meaning R.ResultKind.results (seen view.now) sought)
+        → Ended K.Kind.meaning (seen view.now) sought
         (remaining K.Kind.meaning (seen view.now) (places (seen view.now)) (shown at.old))
         (reset_of K.Kind.meaning (seen view.now) (places (seen view.now)) (shown at.old)) result (shown at.new) }
     ensures lent { SameShowing at.old at.new }
 {
-    for _n in 0..count {
-        if is_sought(view, sought, &at.encounter()) {
+    for _ in 0..count {
+        if is_sought(&at.encounter()) {
             return true;
         }
         if !turn(view, at) {
@@ -47,22 +49,25 @@ fn seek_on<K: Kind, R: ResultKind>(
 }
 
 // Shows the earliest encounter made of starts that is sought, of `count` in all; where there is
-// none, the needed values are at their least.
-fn seek<K: Kind, R: ResultKind>(
+// none, the needed values are at their least. Those made of starts are the same for all encounters
+// with the same other values.
+fn seek<K: Kind, R: ResultKind, F: Fn(&Encounter<'_, K::Value>) -> bool>(
     view: &View<'_, K, R>,
     count: u32,
-    sought: Sought,
+    is_sought: F,
     at: &mut Showing<'_, K::Value>,
 ) -> bool
-    ensures after { Acceptable K.Kind.meaning R.ResultKind.results (seen view.now) → whole (shown at.old) ≡ true
+    requires { F.IsAlwaysCallable is_sought }
+    ensures after { (sought lent : _) → Tests F.Fn is_sought sought
+        → Acceptable K.Kind.meaning R.ResultKind.results (seen view.now) → whole lent ≡ true
         → count ≡ count_of K.Kind.meaning (seen view.now)
-        → Ended K.Kind.meaning (seen view.now) (sought_in K.Kind.meaning R.ResultKind.results (seen view.now) sought)
-        (from_starts K.Kind.meaning (seen view.now) (shown at.old))
-        (reset_of K.Kind.meaning (seen view.now) (places (seen view.now)) (shown at.old)) result (shown at.new) }
+        → reset_of K.Kind.meaning (seen view.now) (places (seen view.now)) (shown at.old) ≡ reset_of K.Kind.meaning (seen view.now) (places (seen view.now)) lent
+        → Ended K.Kind.meaning (seen view.now) sought (from_starts K.Kind.meaning (seen view.now) lent)
+        (reset_of K.Kind.meaning (seen view.now) (places (seen view.now)) lent) result (shown at.new) }
     ensures lent { SameShowing at.old at.new }
 {
     reset(view, at);
-    seek_on(view, count, sought, at)
+    seek_on(view, count, is_sought, at)
 }
 
 // The columns that clash in the encounter shown.
@@ -71,6 +76,7 @@ fn clash<K: Kind, R: ResultKind>(view: &View<'_, K, R>, e: &Encounter<'_, K::Val
 {
     match outcome(view, e) {
         Outcome::Clash { lowest, other } => SheetFault::Clash { lowest, other },
+        // it is asked of no other outcome; a premise that says so would be no plainer
         _ => SheetFault::Clash {
             lowest: 0,
             other: 0,
@@ -91,27 +97,20 @@ fn questions<K: Kind, R: ResultKind>(
         (examined K.Kind.meaning R.ResultKind.results (seen view.now) (from_starts K.Kind.meaning (seen view.now) (shown at.old))) result (shown at.new) }
     ensures lent { SameShowing at.old at.new }
 {
-    let open = seek(view, count, Sought::Open, at);
-    if !open {
+    if !seek(view, count, |e| is_open(view, e), at) {
         return Err(SheetFault::AllBarred);
     }
     // one way through all of them where there is no fault
-    let faulty = seek(view, count, Sought::Fault, at);
-    if !faulty {
+    if !seek(view, count, |e| is_faulty(view, e), at) {
         return Ok(count);
     }
-    let gap = seek(view, count, Sought::Gap, at);
-    if gap {
+    if seek(view, count, |e| is_gap(view, e), at) {
         return Err(SheetFault::Gap);
     }
-    let clashing = seek(view, count, Sought::Clash, at);
-    if clashing {
-        let shown = at.encounter();
-        let fault = clash(view, &shown);
-        return Err(fault);
+    if seek(view, count, |e| is_clash(view, e), at) {
+        return Err(clash(view, &at.encounter()));
     }
-    let asymmetric = seek(view, count, Sought::Asymmetry, at);
-    if asymmetric {
+    if seek(view, count, |e| is_asymmetric(view, e), at) {
         return Err(SheetFault::Asymmetry);
     }
     Ok(count)
@@ -131,8 +130,6 @@ pub fn find_fault<K: Kind, R: ResultKind>(
     if !at.encounter().is_whole() {
         return Err(SheetFault::EncounterLists);
     }
-    match count(view) {
-        Some(count) => questions(view, count, at),
-        None => Err(SheetFault::TooManyEncounters),
-    }
+    let count = count(view).ok_or(SheetFault::TooManyEncounters)?;
+    questions(view, count, at)
 }

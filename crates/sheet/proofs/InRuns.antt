@@ -10,11 +10,12 @@ use Rattle.tables.specs.Contents.{Encounter}
 use Rattle.tables.specs.Calls.{Edit, Call, draft, issued}
 use Rattle.tables.specs.Storage.{Lists, in_order, counts_after, lists_after, kept_unless}
 use Rattle.tables.specs.Answers.{edit_answer, issue_answer, issue_writes}
-use Rattle.runs.specs.Standing.{Stands, EditInRun, IssueInRun, WithdrawInRun}
+use Rattle.runs.specs.Standing.{Stands, IssueInRun, WithdrawInRun}
 use Rattle.runs.proofs.Standing.{in-order-standing, edit-in-run, issue-in-run, withdraw-in-run}
 use Rattle.edits.specs.Meant.{EditLeaves, told, unless}
 use Rattle.sheet.specs.declared.states.Draft.{Draft}
 use Rattle.sheet.specs.declared.states.Issued.{Issued}
+use Rattle.sheet.specs.Making.{MadeRightly}
 use Rattle.sheet.specs.Issuing as issuing
 use Rattle.sheet.specs.Withdrawn as withdrawing
 
@@ -27,13 +28,16 @@ module _ {V C R : Type 0} (m : Meaning V C) (law : Lawful m) (r : Results R) (eq
   kept-unless k None = refl
   kept-unless k (Some f) = refl
 
-  pub edit-made : (k : Edit V C R) (said : Result (Unit {0}) SheetFault) (n' : Counts) (l' : Lists V C R) → said ≡ told (edit_answer m r n l k) → EditLeaves m r k n l n' l'
-      → (calls : List (Call V C R)) → Stands m r calls draft n l → EditInRun m r calls k n' l' (result_err said)
-  edit-made k said n' l' a left calls h =
+  pub made-rightly : (k : Edit V C R) (said : Result (Unit {0}) SheetFault) (n' : Counts) (l' : Lists V C R) → said ≡ told (edit_answer m r n l k) → EditLeaves m r k n l n' l' → MadeRightly m r k n l n' l' said
+  made-rightly k said n' l' a left =
       let o = edit_answer m r n l k in
       let t : result_err said ≡ o = ap result_err a ∙ told_part o in
-      edit-in-run m law r eq calls n l k h (result_err said) t n' l'
-      (ap₂ (λ x y. record { status = draft; counts = x; lists = y }) left.counts left.lists ∙ kept-unless k o ∙ ap (λ u. kept_unless m r u k n l) (sym t))
+      record {
+        answer = a;
+        left = left;
+        in_run = λ calls h. edit-in-run m law r eq calls n l k h (result_err said) t n' l'
+            (ap₂ (λ x y. record { status = draft; counts = x; lists = y }) left.counts left.lists ∙ kept-unless k o ∙ ap (λ u. kept_unless m r u k n l) (sym t));
+      }
 
   pub issue-made : (e : Encounter V) (before : Draft) → before.counts ≡ n → (said : Result (Issued × ℕ) (Draft × SheetFault)) (e' : Encounter V)
       → issuing.IssuedBy (issue_answer m r n l e) before said → e' ≡ issue_writes m r n l e

@@ -1,2 +1,3 @@
 pub mod Withdrawn
 pub mod Issuing
+pub mod Making

@@ -1,6 +1,7 @@
 // The two states of a sheet. Neither can be copied: a draft that was issued is gone, and so is an
-// issued sheet that was withdrawn.
-ghost use Rattle.std.specs.Prelude.{◌≡◌, ◌≤◌, false};
+// issued sheet that was withdrawn. They are two types, since no call but `counts` is one of both.
+ghost use Rattle.std.specs.Prelude.{◌≡◌, false};
+ghost use Rattle.tables.specs.Storage.{Bounded};
 
 use items::Counts;
 
@@ -8,24 +9,18 @@ use items::Counts;
 #[derive(Drop)]
 pub struct Draft {
     pub(crate) counts: Counts,
-    ghost few_quantities: { counts.quantities ≤ 16 },
-    ghost few_rows: { counts.rows ≤ 16 },
-    ghost few_columns: { counts.columns ≤ 16 },
-    ghost few_nevers: { counts.nevers ≤ 8 },
+    ghost few: { Bounded counts },
 }
 
 // A sheet that was found without fault.
 #[derive(Drop)]
 pub struct Issued {
     pub(crate) counts: Counts,
-    ghost few_quantities: { counts.quantities ≤ 16 },
-    ghost few_rows: { counts.rows ≤ 16 },
-    ghost few_columns: { counts.columns ≤ 16 },
-    ghost few_nevers: { counts.nevers ≤ 8 },
+    ghost few: { Bounded counts },
 }
 
 impl Draft {
-    // A draft without any contents, whatever the lists hold.
+    // A draft without any contents, whatever the lists hold. No other place makes empty counts.
     pub fn open() -> Draft
         ensures { result.counts ≡ record { quantities = 0; rows = 0; columns = 0; nevers = 0; default = false } }
     {
@@ -47,12 +42,13 @@ impl Draft {
         self.counts
     }
 
-    // The draft as an issued sheet.
+    // The draft as an issued sheet. No `From` says it, which every caller could use.
     pub(crate) fn into_issued(self) -> Issued
         ensures { result.counts ≡ self.counts }
     {
-        let Draft { counts } = self;
-        Issued { counts }
+        Issued {
+            counts: self.counts,
+        }
     }
 }
 
@@ -64,11 +60,12 @@ impl Issued {
         self.counts
     }
 
-    // The sheet as a draft.
+    // The sheet as a draft. No `From` says it, which every caller could use.
     pub(crate) fn into_draft(self) -> Draft
         ensures { result.counts ≡ self.counts }
     {
-        let Issued { counts } = self;
-        Draft { counts }
+        Draft {
+            counts: self.counts,
+        }
     }
 }

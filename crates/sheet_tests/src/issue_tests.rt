@@ -2,35 +2,36 @@
 use faults::SheetFault;
 use items::{Entry, Mode, Quantity, Row, Scope};
 use lists::lent::{Lists, Showing};
+use memory::sheet::SheetMemory;
 use names::{NameSet, Names};
 use results::figure::Figure;
 use sheet::states::Draft;
 use std::test::Fail;
 
-// A sheet of one flight name from 1 to 2, with a row in a mode.
-fn write_name(
-    draft: &mut Draft,
+// A draft of one flight name from 1 to 2, with a row in a mode, columns that hold for name 2 and
+// perhaps a default.
+fn written(
     lists: &mut Lists<'_, Names, Figure>,
     mode: Mode,
-) -> Result<(), SheetFault> {
+    columns: &[i32],
+    default: Option<i32>,
+) -> Result<Draft, SheetFault> {
     let name = Quantity {
         scope: Scope::Flight,
         least: 1,
         greatest: 2,
     };
+    let mut draft = Draft::open();
     draft.name_quantity(lists, name)?;
-    draft.add_row(lists, Row { quantity: 0, mode })
-}
-
-// A column with a result that holds for name 2.
-fn write_column(
-    draft: &mut Draft,
-    lists: &mut Lists<'_, Names, Figure>,
-    column: usize,
-    value: i32,
-) -> Result<(), SheetFault> {
-    draft.add_column(lists, Figure { value })?;
-    draft.set_cell(lists, 0, column, Entry::Cell(NameSet { bits: 4 }))
+    draft.add_row(lists, Row { quantity: 0, mode })?;
+    for (column, value) in columns.iter().enumerate() {
+        draft.add_column(lists, Figure { value: *value })?;
+        draft.set_cell(lists, 0, column, Entry::Cell(NameSet { bits: 4 }))?;
+    }
+    if let Some(value) = default {
+        draft.set_default(lists, Figure { value })?;
+    }
+    Ok(draft)
 }
 
 // The number of the refusal, or 0, and what the first two entries of A's and B's lists then are.
@@ -46,7 +47,7 @@ fn issue(draft: Draft, lists: &Lists<'_, Names, Figure>, length: usize) -> [u32;
     };
     let number = match draft.issue(lists, &mut at) {
         Ok(_) => 0,
-        Err(back) => back.1.number(),
+        Err((_, fault)) => fault.number(),
     };
     [u32::from(number), a[0], b[0], a[1], pair[0]]
 }
@@ -56,48 +57,20 @@ fn answers(
     lists: &mut Lists<'_, Names, Figure>,
     length: usize,
 ) -> Result<[[u32; 5]; 4], SheetFault> {
-    let mut gap = Draft::open();
-    write_name(&mut gap, lists, Mode::Either)?;
-    write_column(&mut gap, lists, 0, 1)?;
+    let gap = written(lists, Mode::Either, &[1], None)?;
     let gap = issue(gap, lists, length);
-    let mut clash = Draft::open();
-    write_name(&mut clash, lists, Mode::Both)?;
-    write_column(&mut clash, lists, 0, 1)?;
-    write_column(&mut clash, lists, 1, 2)?;
-    clash.set_default(lists, Figure { value: 3 })?;
+    let clash = written(lists, Mode::Both, &[1, 2], Some(3))?;
     let clash = issue(clash, lists, length);
-    let mut lopsided = Draft::open();
-    write_name(&mut lopsided, lists, Mode::A)?;
-    write_column(&mut lopsided, lists, 0, 1)?;
-    lopsided.set_default(lists, Figure { value: 3 })?;
+    let lopsided = written(lists, Mode::A, &[1], Some(3))?;
     let lopsided = issue(lopsided, lists, length);
-    let mut good = Draft::open();
-    write_name(&mut good, lists, Mode::Both)?;
-    write_column(&mut good, lists, 0, 1)?;
-    good.set_default(lists, Figure { value: 3 })?;
+    let good = written(lists, Mode::Both, &[1], Some(3))?;
     let good = issue(good, lists, length);
     Ok([gap, clash, lopsided, good])
 }
 
 fn all(length: usize) -> Result<[[u32; 5]; 4], SheetFault> {
-    let mut quantities = [Quantity {
-        scope: Scope::Pair,
-        least: 0,
-        greatest: 0,
-    }; 16];
-    let mut rows = [Row {
-        quantity: 0,
-        mode: Mode::Pair,
-    }; 16];
-    let mut entries = [Entry::Any; 384];
-    let mut results = [Figure { value: 0 }; 17];
-    let mut lists = Lists {
-        quantities: &mut quantities,
-        rows: &mut rows,
-        entries: &mut entries,
-        results: &mut results,
-    };
-    answers(&mut lists, length)
+    let mut memory = SheetMemory::new(0, Figure { value: 0 });
+    answers(&mut memory.lend(), length)
 }
 
 // What is shown stands in the needed entries, and the others are as they were.

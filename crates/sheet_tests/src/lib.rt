@@ -11,16 +11,14 @@ mod tests {
     use items::{Entry, Mode, Quantity, Row, Scope};
     use lists::lent::Lists;
     use measure::{Band, Measure};
+    use memory::sheet::SheetMemory;
     use results::figure::Figure;
     use sheet::states::Draft;
     use std::process::Abort;
 
     // The number of a refusal, or 0.
     fn number(answer: Result<(), SheetFault>) -> u8 {
-        match answer {
-            Ok(()) => 0,
-            Err(fault) => fault.number(),
-        }
+        answer.err().map_or(0, |fault| fault.number())
     }
 
     fn levels(least: i32, greatest: i32) -> Quantity<i32> {
@@ -66,7 +64,7 @@ mod tests {
 
     // One more of each than a sheet can have, at fault otherwise too.
     fn full_sheet(rt: &impl Abort, draft: &mut Draft, lists: &mut Lists<'_, Measure, Figure>) {
-        for _i in 0..16 {
+        for _ in 0..16 {
             let _ = draft.name_quantity(lists, levels(0, 9));
             let _ = draft.add_row(lists, row(0, Mode::B));
             let _ = draft.add_column(lists, figure(1));
@@ -89,31 +87,26 @@ mod tests {
 
     #[test]
     fn draft_calls(rt: HostRuntime) {
-        let mut quantities = [levels(0, 0); 16];
-        let mut rows = [row(0, Mode::A); 16];
-        let mut entries = [Entry::Any; 384];
-        let mut results = [figure(0); 17];
-        let mut lists = Lists {
-            quantities: &mut quantities,
-            rows: &mut rows,
-            entries: &mut entries,
-            results: &mut results,
-        };
+        let mut memory = SheetMemory::new(0, figure(0));
+        let mut lists = memory.lend();
         small_sheet(&rt, &mut Draft::open(), &mut lists);
         full_sheet(&rt, &mut Draft::open(), &mut lists);
     }
 
     #[test]
     fn lists_of_wrong_length(rt: HostRuntime) {
-        let mut quantities = [levels(0, 0); 16];
-        let mut rows = [row(0, Mode::A); 15];
-        let mut entries = [Entry::Any; 384];
-        let mut results = [figure(0); 17];
+        let mut memory: SheetMemory<Measure, Figure> = SheetMemory::new(0, figure(0));
+        let Lists {
+            quantities,
+            rows,
+            entries,
+            results,
+        } = memory.lend();
         let mut lists = Lists {
-            quantities: &mut quantities,
-            rows: &mut rows,
-            entries: &mut entries,
-            results: &mut results,
+            quantities,
+            rows: &mut rows[..15],
+            entries,
+            results,
         };
         short_lists(&rt, &mut Draft::open(), &mut lists);
     }

@@ -1,5 +1,5 @@
 -- Counting starts, and products of their numbers up to the limit. Assumes nothing.
-use Rattle.std.proofs.Common.{◌≡◌, ℕ, suc, ◌+◌, ◌*◌, ◌/◌, ◌<◌, ◌≤◌, min, leb, List, [], ◌∷◌, ◌++◌, map, length, get_or, take, drop, Some, None, Option, sym, refl, ap, ◌∙◌, mul_assoc, mul-le-mul_left, mul-one, add-one, arith}
+use Rattle.std.proofs.Common.{◌≡◌, ℕ, suc, ◌+◌, ◌*◌, ◌/◌, ◌<◌, ◌≤◌, min, leb, List, [], ◌∷◌, ◌++◌, map, length, get_or, drop, Some, None, Option, sym, refl, ap, ◌∙◌, mul_assoc, mul-le-mul_left, mul-one, add-one, arith}
 use native.Mathlib.Nat.{mul-div-le, lt-mul-div-succ}
 use Rattle.std.proofs.lemmas.Bool.{cond-true, cond-false, cond_both, le-leb, lt-leb, leb-true, leb-false}
 use Rattle.kinds.specs.Meaning.{Meaning, Lawful}
@@ -14,7 +14,7 @@ use Rattle.tables.specs.Bridges.{taken}
 use Rattle.tables.specs.Issues.{limit}
 use Rattle.tables.proofs.Lists.{none-some, some_same}
 use Rattle.tables.proofs.Covering.{starts-on}
-use Rattle.outcomes.proofs.Left.{front-here, front-end}
+use Rattle.std.proofs.lemmas.List.{drop_more, drop_all}
 use Rattle.starts.specs.Counted.{within_limit, starts_of}
 
 -- the starts from v on: v alone, or one more than from the next one on
@@ -111,31 +111,31 @@ module _ {V C R : Type 0} (m : Meaning V C) (c : Contents V C R) where
       let a : 1 ≤ taken q.scope l * from (suc i) qs = some_more (taken q.scope l) (from (suc i) qs) (taken-some l q.scope (starts-some m c i q.least q.greatest)) (from_some (suc i) qs) in
       omega (arith, from-here i q qs)
 
-  module _ (qs : List (Quantity V)) (n : ℕ) where
+  module _ (qs : List (Quantity V)) where
     abbrev pub left : ℕ → ℕ
-    left i = from i (drop i (take n qs))
+    left i = from i (drop i qs)
 
     abbrev here : ℕ → Quantity V → ℕ
     here i q = taken q.scope (starts_of m c i q.least q.greatest)
 
-    left_here : (i : ℕ) (d : Quantity V) → n ≤ length qs → i < n → left i ≡ here i (get_or qs i d) * left (i + 1)
-    left_here i d long h =
-        ap (from i) (front-here qs n i d long h) ∙ from-here i (get_or qs i d) (drop (i + 1) (take n qs)) ∙ ap (λ k. here i (get_or qs i d) * from k (drop (i + 1) (take n qs))) (sym (add-one i))
+    left_here : (i : ℕ) (q : Quantity V) → i < length qs → q ≡ get_or qs i q → left i ≡ here i q * left (i + 1)
+    left_here i q h is =
+        ap (from i) (drop_more qs i q h ∙ ap (λ q. q ∷ drop (i + 1) qs) (sym is)) ∙ from-here i q (drop (i + 1) qs) ∙ ap (λ k. here i q * from k (drop (i + 1) qs)) (sym (add-one i))
 
-    left_end : (i : ℕ) → n ≤ i → left i ≡ 1
-    left_end i h = ap (from i) (front-end qs n i h)
+    left_end : (i : ℕ) → length qs ≤ i → left i ≡ 1
+    left_end i h = ap (from i) (drop_all i qs h)
 
-    pub counted-here : (i : ℕ) (d : Quantity V) (p more z : ℕ) → n ≤ length qs → i < n → Some more ≡ within_limit (p * here i (get_or qs i d)) → p * left i ≡ z → (more ≤ limit) × (more * left (i + 1) ≡ z)
-    counted-here i d p more z long h e inv =
-        let t = told_is more (p * here i (get_or qs i d)) e in
+    pub counted-here : (i : ℕ) (q : Quantity V) (p more z : ℕ) → i < length qs → q ≡ get_or qs i q → Some more ≡ within_limit (p * here i q) → p * left i ≡ z → (more ≤ limit) × (more * left (i + 1) ≡ z)
+    counted-here i q p more z h is e inv =
+        let t = told_is more (p * here i q) e in
         let b : more ≤ limit = omega (arith, t.0, t.1) in
-        (b, ap (λ k. k * left (i + 1)) t.0 ∙ mul_assoc p (here i (get_or qs i d)) (left (i + 1)) ∙ sym (ap (λ k. p * k) (left_here i d long h)) ∙ inv)
+        (b, ap (λ k. k * left (i + 1)) t.0 ∙ mul_assoc p (here i q) (left (i + 1)) ∙ sym (ap (λ k. p * k) (left_here i q h is)) ∙ inv)
 
-    pub counted-over : (i : ℕ) (d : Quantity V) (p z : ℕ) → n ≤ length qs → i < n → None ≡ within_limit (p * here i (get_or qs i d)) → p * left i ≡ z → None ≡ within_limit z
-    counted-over i d p z long h e inv =
-        let a : limit < p * here i (get_or qs i d) * left (i + 1) = past (p * here i (get_or qs i d)) (left (i + 1)) (from_some (i + 1) (drop (i + 1) (take n qs))) (untold-is (p * here i (get_or qs i d)) e) in
-        let b : p * here i (get_or qs i d) * left (i + 1) ≡ z = mul_assoc p (here i (get_or qs i d)) (left (i + 1)) ∙ sym (ap (λ k. p * k) (left_here i d long h)) ∙ inv in
+    pub counted-over : (i : ℕ) (q : Quantity V) (p z : ℕ) → i < length qs → q ≡ get_or qs i q → None ≡ within_limit (p * here i q) → p * left i ≡ z → None ≡ within_limit z
+    counted-over i q p z h is e inv =
+        let a : limit < p * here i q * left (i + 1) = past (p * here i q) (left (i + 1)) (from_some (i + 1) (drop (i + 1) qs)) (untold-is (p * here i q) e) in
+        let b : p * here i q * left (i + 1) ≡ z = mul_assoc p (here i q) (left (i + 1)) ∙ sym (ap (λ k. p * k) (left_here i q h is)) ∙ inv in
         untold z (omega arith)
 
-    pub counted-all : (i p z : ℕ) → n ≤ i → p ≤ limit → p * left i ≡ z → Some p ≡ within_limit z
+    pub counted-all : (i p z : ℕ) → length qs ≤ i → p ≤ limit → p * left i ≡ z → Some p ≡ within_limit z
     counted-all i p z h b inv = told p b ∙ ap within_limit (sym (mul-one p) ∙ sym (ap (λ k. p * k) (left_end i h)) ∙ inv)

@@ -1,6 +1,6 @@
 -- The earliest stop of some cells, one entry and one column after the other. Assumes nothing.
-use Rattle.std.proofs.Common.{◌≡◌, ℕ, zero, suc, ◌+◌, ◌-◌, ◌*◌, ◌<◌, ◌≤◌, Bool, true, false, cond, eqb, List, [], ◌∷◌, ◌++◌, map, length, get_or, take, None, Option, sym, refl, ap, ◌∙◌, ap₂, add-one, arith, length-take}
-use Rattle.std.specs.List.{range_with_len}
+use Rattle.std.proofs.Common.{◌≡◌, ℕ, zero, suc, ◌+◌, ◌-◌, ◌≤◌, Bool, true, false, cond, eqb, List, [], ◌∷◌, ◌++◌, map, zip, filter, length, take, None, Option, sym, refl, ap, ◌∙◌, ap₂, add-one, arith, length-take}
+use Rattle.std.specs.List.{fold, range_with_len}
 use Rattle.kinds.specs.Meaning.{Meaning, earlier}
 use Rattle.kinds.proofs.Earliest.{earlier-none, earlier-assoc}
 use Rattle.items.specs.declared.Row.{Row}
@@ -9,14 +9,11 @@ use Rattle.items.specs.declared.Entry.TheVariants.{Any, Cell}
 use Rattle.tables.specs.Words.{each}
 use Rattle.tables.specs.Starts.{reading, earliest}
 use Rattle.tables.specs.Storage.{column_of, columns_from}
-use Rattle.outcomes.proofs.Left.{below, below-here, below_end}
 use Rattle.starts.specs.Stops.{stop_of}
 
-pub numbers-here : (n j : ℕ) → j < n → range_with_len j (n - j) ≡ j ∷ range_with_len (j + 1) (n - (j + 1))
-numbers-here n j h = let q : n - j ≡ suc (n - (j + 1)) = omega arith in ap (range_with_len j) q
-
-pub numbers-end : (n j : ℕ) → n ≤ j → range_with_len j (n - j) ≡ []
-numbers-end n j h = let q : n - j ≡ 0 = omega arith in ap (range_with_len j) q
+cond-same : {X : Type 0} (b : Bool) (x : X) → cond b x x ≡ x
+cond-same true x = refl
+cond-same false x = refl
 
 module _ {V C : Type 0} (m : Meaning V C) (v : V) where
   earliest-append : (xs ys : List C) → earliest m (xs ++ ys) v ≡ earlier m.rank (earliest m xs v) (earliest m ys v)
@@ -27,43 +24,28 @@ module _ {V C : Type 0} (m : Meaning V C) (v : V) where
   earliest-if true x xs = refl
   earliest-if false x xs = refl
 
-  reading-here : (i : ℕ) (w : Row) (ws : List Row) (x : Entry C) (xs : List (Entry C)) → earliest m (reading i (w ∷ ws) (x ∷ xs)) v ≡ earlier m.rank (stop_of m i w x v) (earliest m (reading i ws xs) v)
-  reading-here i w ws Any xs = refl
+  folded-if : (b : Bool) (p : Row × Entry C) (ps : List (Row × Entry C)) (o : Option V) → fold (λ s p. earlier m.rank s (stop_of m p.1 v)) o (cond b (p ∷ ps) ps) ≡ fold (λ s p. earlier m.rank s (stop_of m p.1 v)) (earlier m.rank o (cond b (stop_of m p.1 v) None)) ps
+  folded-if true p ps o = refl
+  folded-if false p ps o = ap (λ o. fold (λ s p. earlier m.rank s (stop_of m p.1 v)) o ps) (sym (earlier-none m.rank o))
+
+  reading-here : (i : ℕ) (w : Row) (ws : List Row) (x : Entry C) (xs : List (Entry C)) → earliest m (reading i (w ∷ ws) (x ∷ xs)) v ≡ earlier m.rank (cond (eqb w.quantity i) (stop_of m x v) None) (earliest m (reading i ws xs) v)
+  reading-here i w ws Any xs = sym (ap (λ o. earlier m.rank o (earliest m (reading i ws xs) v)) (cond-same (eqb w.quantity i) None))
   reading-here i w ws (Cell x) xs = earliest-if (eqb w.quantity i) x (reading i ws xs)
 
-  -- a stop so far with the next one
-  joined : (stop here next rest : Option V) {h z : Option V} → here ≡ h → next ≡ earlier m.rank stop here → earlier m.rank stop (earlier m.rank h rest) ≡ z → earlier m.rank next rest ≡ z
-  joined stop here next rest {h} is made inv =
-      ap (λ s. earlier m.rank s rest) (made ∙ ap (earlier m.rank stop) is) ∙ sym (earlier-assoc m.rank stop h rest) ∙ inv
+  -- the entries of a column in rows that read quantity i, row by row
+  pub folded-rows : (i : ℕ) (ws : List Row) (es : List (Entry C)) (o : Option V) → fold (λ s p. earlier m.rank s (stop_of m p.1 v)) o (filter (λ p. eqb p.0.quantity i) (zip ws es)) ≡ earlier m.rank o (earliest m (reading i ws es) v)
+  folded-rows i [] es o = sym (earlier-none m.rank o)
+  folded-rows i (w ∷ ws) [] o = sym (earlier-none m.rank o)
+  folded-rows i (w ∷ ws) (x ∷ xs) o =
+      let here = cond (eqb w.quantity i) (stop_of m x v) None in
+      folded-if (eqb w.quantity i) (w, x) (filter (λ p. eqb p.0.quantity i) (zip ws xs)) o
+      ∙ folded-rows i ws xs (earlier m.rank o here) ∙ sym (earlier-assoc m.rank o here (earliest m (reading i ws xs) v)) ∙ sym (ap (earlier m.rank o) (reading-here i w ws x xs))
 
-  -- one row of a column
-  module _ (q : ℕ) (ws : List Row) (es : List (Entry C)) (n j : ℕ) where
-    abbrev pub rest : ℕ → Option V
-    rest = below (λ ws xs. earliest m (reading q ws xs) v) ws es n j
-
-    pub stop-here : (i : ℕ) (d : Row) (any : Entry C) (stop here next : Option V) {z : Option V} → n ≤ length ws → i < n → 24 * i + j < length es
-        → here ≡ stop_of m q (get_or ws i d) (get_or es (24 * i + j) any) v → next ≡ earlier m.rank stop here
-        → earlier m.rank stop (rest i) ≡ z → earlier m.rank next (rest (i + 1)) ≡ z
-    stop-here i d any stop here next long h inside is made inv =
-        joined stop here next (rest (i + 1)) is made
-        (sym (ap (earlier m.rank stop) (below-here (λ ws xs. earliest m (reading q ws xs) v) ws es n j i d any long h inside ∙ reading-here q (get_or ws i d) _ (get_or es (24 * i + j) any) _)) ∙ inv)
-
-    pub stop-end : (i : ℕ) (stop : Option V) {z : Option V} → n ≤ i → earlier m.rank stop (rest i) ≡ z → stop ≡ z
-    stop-end i stop h inv = sym (earlier-none m.rank stop) ∙ sym (ap (earlier m.rank stop) (below_end (λ ws xs. earliest m (reading q ws xs) v) ws es n j i h)) ∙ inv
-
-  -- one column
-  module _ (f : ℕ → List C) (n : ℕ) where
-    abbrev pub later : ℕ → Option V
-    later j = earliest m (each (range_with_len j (n - j)) f) v
-
-    pub later-here : (j : ℕ) (stop here next : Option V) {z : Option V} → j < n → here ≡ earliest m (f j) v → next ≡ earlier m.rank stop here
-        → earlier m.rank stop (later j) ≡ z → earlier m.rank next (later (j + 1)) ≡ z
-    later-here j stop here next h is made inv =
-        joined stop here next (later (j + 1)) is made
-        (sym (ap (earlier m.rank stop) (ap (λ ns. earliest m (each ns f) v) (numbers-here n j h) ∙ earliest-append (f j) (each (range_with_len (j + 1) (n - (j + 1))) f))) ∙ inv)
-
-    pub later-end : (j : ℕ) (stop : Option V) {z : Option V} → n ≤ j → earlier m.rank stop (later j) ≡ z → stop ≡ z
-    later-end j stop h inv = sym (earlier-none m.rank stop) ∙ sym (ap (λ ns. earlier m.rank stop (earliest m (each ns f) v)) (numbers-end n j h)) ∙ inv
+  -- one column after the other
+  pub folded-columns : (f : ℕ → List C) (ns : List ℕ) (o : Option V) → fold (λ s j. earlier m.rank s (earliest m (f j) v)) o ns ≡ earlier m.rank o (earliest m (each ns f) v)
+  folded-columns f [] o = sym (earlier-none m.rank o)
+  folded-columns f (n ∷ ns) o =
+      folded-columns f ns (earlier m.rank o (earliest m (f n) v)) ∙ sym (earlier-assoc m.rank o (earliest m (f n) v) (earliest m (each ns f) v)) ∙ sym (ap (earlier m.rank o) (earliest-append (f n) (each ns f)))
 
   -- the columns and then the nevers
   module _ (i : ℕ) (ws : List Row) (es : List (Entry C)) (w : ℕ) where
@@ -78,7 +60,7 @@ module _ {V C : Type 0} (m : Meaning V C) (v : V) where
     each-never zero b = refl
     each-never (suc k) b = let q : 16 + b + 1 ≡ 16 + (b + 1) = omega arith in ap (λ cs. cells (16 + b) ++ cs) (ap (λ a. each (range_with_len a k) cells) q ∙ each-never k (b + 1))
 
-    pub all-cells : {R : Type 0} (n k : ℕ) (rs : List R) (columns nevers : Option V) {stop : Option V} → n ≤ length rs → columns ≡ later cells n 0 → nevers ≡ later cells (16 + k) 16 → stop ≡ earlier m.rank columns nevers
+    pub all-cells : {R : Type 0} (n k : ℕ) (rs : List R) (columns nevers : Option V) {stop : Option V} → n ≤ length rs → columns ≡ earliest m (each (range_with_len 0 (n - 0)) cells) v → nevers ≡ earliest m (each (range_with_len 16 (16 + k - 16)) cells) v → stop ≡ earlier m.rank columns nevers
         → stop ≡ earliest m (each (columns_from es w 0 (take n rs)) (λ k. reading i ws k.entries) ++ each (map (λ j. column_of es w (16 + j)) (range_with_len 0 k)) (reading i ws)) v
     all-cells n k rs columns nevers long c e is =
         let a : n - 0 ≡ length (take n rs) = omega (arith, length-take n rs) in

@@ -1,8 +1,7 @@
 -- The stops of one entry, and of some columns. Assumes nothing.
-use Rattle.std.specs.Prelude.{ℕ, ◌-◌, cond, List, None, Option, ◌==◌}
+use Rattle.std.specs.Prelude.{ℕ, ◌-◌, List, None, Option}
 use Rattle.std.specs.List.{range_with_len}
 use Rattle.kinds.specs.Meaning.{Meaning}
-use Rattle.items.specs.declared.Row.{Row}
 use Rattle.items.specs.declared.Entry.{Entry}
 use Rattle.items.specs.declared.Entry.TheVariants.{Any, Cell}
 use Rattle.tables.specs.Words.{each}
@@ -12,10 +11,10 @@ use Rattle.lists.specs.Held.{seen}
 use Rattle.kinds.specs.declared.Kind.{Ghosts}
 use Rattle.lists.specs.declared.view.View.{View}
 
--- the stop after v of an entry in a row, if the row reads quantity i
-abbrev pub stop_of : {V C : Type 0} → Meaning V C → ℕ → Row → Entry C → V → Option V
-stop_of m i w Any v = None
-stop_of m i w (Cell x) v = cond (w.quantity == i) (m.stop x v) None
+-- the stop of an entry after v, if it is a cell
+abbrev pub stop_of : {V C : Type 0} → Meaning V C → Entry C → V → Option V
+stop_of m Any v = None
+stop_of m (Cell x) v = m.stop x v
 
 -- the cells in rows that read quantity i, of the columns from number j up to n
 abbrev pub cells_from : {K R V C : Type 0} {k : Ghosts K V C} → View K R V C k → ℕ → ℕ → ℕ → List C

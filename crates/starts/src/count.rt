@@ -18,19 +18,19 @@ pub const LIMIT: u32 = 1_048_576;
 fn starts_up_to<K: Kind, R: ResultKind>(
     view: &View<'_, K, R>,
     i: usize,
-    least: K::Value,
-    greatest: K::Value,
+    q: Quantity<K::Value>,
     most: u32,
 ) -> u32
     requires { most ≤ 1048576 }
-    ensures { result ≡ min (starts_of K.Kind.meaning (seen view.now) i least greatest) (most + 1) }
+    ensures { result ≡ min (starts_of K.Kind.meaning (seen view.now) i q.least q.greatest) (most + 1) }
 {
-    let mut at = least;
+    let mut at = q.least;
+    // a chain from `successors` would count in usize, and need a cast back with a proof that it fits
     for n in 0..most {
-        match next_start(view, i, greatest, at) {
-            Some(v) => at = v,
-            None => return n + 1,
-        }
+        let Some(next) = next_start(view, i, q.greatest, at) else {
+            return n + 1;
+        };
+        at = next;
     }
     most + 1
 }
@@ -39,18 +39,17 @@ fn starts_up_to<K: Kind, R: ResultKind>(
 fn times_starts<K: Kind, R: ResultKind>(
     view: &View<'_, K, R>,
     i: usize,
-    least: K::Value,
-    greatest: K::Value,
+    q: Quantity<K::Value>,
     product: u32,
 ) -> Option<u32>
     requires { product ≤ 1048576 }
-    ensures { result ≡ within_limit (product * starts_of K.Kind.meaning (seen view.now) i least greatest) }
+    ensures { result ≡ within_limit (product * starts_of K.Kind.meaning (seen view.now) i q.least q.greatest) }
 {
     if product == 0 {
         return Some(0);
     }
     let most = LIMIT / product;
-    let n = starts_up_to(view, i, least, greatest, most);
+    let n = starts_up_to(view, i, q, most);
     if n > most {
         return None;
     }
@@ -67,12 +66,9 @@ fn times_quantity<K: Kind, R: ResultKind>(
     requires { product ≤ 1048576 }
     ensures { result ≡ within_limit (product * taken q.scope (starts_of K.Kind.meaning (seen view.now) i q.least q.greatest)) }
 {
-    let once = match times_starts(view, i, q.least, q.greatest, product) {
-        Some(once) => once,
-        None => return None,
-    };
+    let once = times_starts(view, i, q, product)?;
     match q.scope {
-        Scope::Flight => times_starts(view, i, q.least, q.greatest, once),
+        Scope::Flight => times_starts(view, i, q, once),
         Scope::Pair => Some(once),
     }
 }
@@ -83,11 +79,8 @@ pub fn count<K: Kind, R: ResultKind>(view: &View<'_, K, R>) -> Option<u32>
     ensures { result ≡ within_limit (count_of K.Kind.meaning (seen view.now)) }
 {
     let mut product = 1;
-    for i in 0..view.counts.quantities {
-        match times_quantity(view, i, view.quantities[i], product) {
-            Some(more) => product = more,
-            None => return None,
-        }
+    for (i, q) in view.quantities_in_use().iter().enumerate() {
+        product = times_quantity(view, i, *q, product)?;
     }
     Some(product)
 }

@@ -8,16 +8,17 @@ mod show;
 mod written;
 
 use crate::show::{print_probe, print_result};
-use crate::written::{issue, nothing, track, write_lateral, write_plain};
+use crate::written::{issue, nothing, track, write_half, write_plain, write_whole};
 use anyhow::anyhow;
-use items::{Entry, Mode, Row};
 use lists::lent::{Encounter, Lists};
+use memory::sheet::SheetMemory;
+use probe::fault::Letter;
 use probe::minima::{Sheet, Sheets};
 use results::ResultKind;
 use results::figure::Figure;
 use results::period::Period;
 use sheet::states::{Draft, Issued};
-use tracks::{Track, Tracks};
+use tracks::Tracks;
 
 // An issued sheet that has a default and no column.
 fn plain<R: ResultKind>(
@@ -26,53 +27,24 @@ fn plain<R: ResultKind>(
     res: R,
 ) -> anyhow::Result<Issued> {
     let mut draft = Draft::open();
-    match write_plain(&mut draft, lists, res) {
-        Ok(()) => issue(rt, draft, lists),
-        Err(_) => Err(anyhow!("a call is refused")),
-    }
+    write_plain(&mut draft, lists, res).map_err(|_| anyhow!("a call is refused"))?;
+    issue(rt, draft, lists)?.map_err(|_| anyhow!("a sheet is not issued"))
 }
 
-// The lateral sheet, with or without its column for half tracks.
-fn lateral(
-    rt: &HostRuntime,
-    lists: &mut Lists<'_, Tracks, Figure>,
-    whole_only: bool,
-) -> anyhow::Result<Issued> {
+// The lateral sheet. Without a column for half tracks it is not issued, and the draft comes back.
+fn lateral(rt: &HostRuntime, lists: &mut Lists<'_, Tracks, Figure>) -> anyhow::Result<Issued> {
     let mut draft = Draft::open();
-    match write_lateral(&mut draft, lists, whole_only) {
-        Ok(()) => issue(rt, draft, lists),
-        Err(_) => Err(anyhow!("a call is refused")),
-    }
+    write_whole(&mut draft, lists).map_err(|_| anyhow!("a call is refused"))?;
+    let Err(mut back) = issue(rt, draft, lists)? else {
+        return Err(anyhow!("a hole was not seen"));
+    };
+    println!(rt; "so half tracks get a column of their own")?;
+    write_half(&mut back, lists).map_err(|_| anyhow!("a call is refused"))?;
+    issue(rt, back, lists)?.map_err(|_| anyhow!("a sheet is not issued"))
 }
 
-// Looks pairs of tracks up, and probes flights on them. They go opposite ways, so the sheet for the
-// same direction is not looked up, and that of vertical minima stands in its place.
-fn probe_pairs<'a, 'l, 'o, 'n>(
-    rt: &HostRuntime,
-    lateral: &'a Issued,
-    lateral_lists: &'a Lists<'l, Tracks, Figure>,
-    other: &'a Issued,
-    other_lists: &'a Lists<'o, Tracks, Figure>,
-    period: &'a Issued,
-    period_lists: &'a Lists<'n, Tracks, Period>,
-) -> anyhow::Result<()> {
-    let l = Sheet {
-        issued: lateral,
-        lists: lateral_lists,
-    };
-    let v = Sheet {
-        issued: other,
-        lists: other_lists,
-    };
-    let g = Sheet {
-        issued: other,
-        lists: other_lists,
-    };
-    let n = Sheet {
-        issued: period,
-        lists: period_lists,
-    };
-    let sheets = Sheets { v, l, g, n };
+// Looks pairs of tracks up, and probes flights on them.
+fn probe_pairs(rt: &HostRuntime, sheets: &Sheets<'_, Tracks>) -> anyhow::Result<()> {
     for (one, two) in [
         (track(0, false), track(2, false)),
         (track(0, true), track(1, false)),
@@ -82,61 +54,48 @@ fn probe_pairs<'a, 'l, 'o, 'n>(
         let a = [one; 16];
         let b = [two; 16];
         let pair = [nothing(); 16];
-        let e: Encounter<'_, Track> = Encounter {
+        let e = Encounter {
             a: &a,
             b: &b,
             pair: &pair,
         };
-        print_result(rt, one, two, lateral.look_up(lateral_lists, &e))?;
-        print_probe(rt, &sheets, &e)?;
+        print_result(rt, one, two, sheets.l.look_up(Letter::L, &e))?;
+        print_probe(rt, sheets, &e)?;
     }
     Ok(())
 }
 
 fn run(rt: &HostRuntime) -> anyhow::Result<()> {
-    let quantity = written::tracks_of_flights();
-    let row = Row {
-        quantity: 0,
-        mode: Mode::Pair,
+    let mut l = SheetMemory::new(nothing(), Figure { value: 0 });
+    let mut o = SheetMemory::new(nothing(), Figure { value: 0 });
+    let mut n = SheetMemory::new(nothing(), Period { from: 0, to: 0 });
+    let mut l_lists = l.lend();
+    let mut o_lists = o.lend();
+    let mut n_lists = n.lend();
+    let l_issued = lateral(rt, &mut l_lists)?;
+    let o_issued = plain(rt, &mut o_lists, Figure { value: 1000 })?;
+    let n_issued = plain(rt, &mut n_lists, Period { from: -15, to: 15 })?;
+    // The flights go opposite ways, so the sheet for the same direction is not looked up, and that of
+    // vertical minima stands in its place.
+    let sheets = Sheets {
+        v: Sheet {
+            issued: &o_issued,
+            lists: &o_lists,
+        },
+        l: Sheet {
+            issued: &l_issued,
+            lists: &l_lists,
+        },
+        g: Sheet {
+            issued: &o_issued,
+            lists: &o_lists,
+        },
+        n: Sheet {
+            issued: &n_issued,
+            lists: &n_lists,
+        },
     };
-    let mut l_quantities = [quantity; 16];
-    let mut l_rows = [row; 16];
-    let mut l_entries = [Entry::Any; 384];
-    let mut l_results = [Figure { value: 0 }; 17];
-    let mut l_lists = Lists {
-        quantities: &mut l_quantities,
-        rows: &mut l_rows,
-        entries: &mut l_entries,
-        results: &mut l_results,
-    };
-    let mut o_quantities = [quantity; 16];
-    let mut o_rows = [row; 16];
-    let mut o_entries = [Entry::Any; 384];
-    let mut o_results = [Figure { value: 0 }; 17];
-    let mut o_lists = Lists {
-        quantities: &mut o_quantities,
-        rows: &mut o_rows,
-        entries: &mut o_entries,
-        results: &mut o_results,
-    };
-    let mut n_quantities = [quantity; 16];
-    let mut n_rows = [row; 16];
-    let mut n_entries = [Entry::Any; 384];
-    let mut n_results = [Period { from: 0, to: 0 }; 17];
-    let mut n_lists = Lists {
-        quantities: &mut n_quantities,
-        rows: &mut n_rows,
-        entries: &mut n_entries,
-        results: &mut n_results,
-    };
-    match lateral(rt, &mut l_lists, true) {
-        Ok(_) => return Err(anyhow!("a hole was not seen")),
-        Err(_) => println!(rt; "so half tracks get a column of their own")?,
-    }
-    let l = lateral(rt, &mut l_lists, false)?;
-    let o = plain(rt, &mut o_lists, Figure { value: 1000 })?;
-    let n = plain(rt, &mut n_lists, Period { from: -15, to: 15 })?;
-    probe_pairs(rt, &l, &l_lists, &o, &o_lists, &n, &n_lists)
+    probe_pairs(rt, &sheets)
 }
 
 fn main(rt: HostRuntime) -> anyhow::Result<()> {

@@ -1,12 +1,14 @@
-// What is printed. A half track has the letters of both its neighbours.
+// What is printed.
+use crate::written::nothing;
 use faults::SheetFault;
-use fixes::fix::{Direction, Fix, Passing};
+use fixes::fix::{Direction, Fix, Flights, Passing};
 use items::Side;
 use lists::lent::{Encounter, Showing};
+use probe::fault::Lettered;
 use probe::minima::Sheets;
 use probe::probing::probe;
 use results::figure::Figure;
-use std::alloc::{AllocError, Global};
+use std::fmt;
 use tracks::{LAST, Track, Tracks};
 
 fn letter(number: u8) -> char {
@@ -17,13 +19,19 @@ fn letter(number: u8) -> char {
     }
 }
 
-fn name(heap: Global, track: Track) -> Result<String, AllocError> {
-    let own = letter(track.letter);
-    if !track.half {
-        return format!(in heap; "{own}");
+// A track by its letter. A half track has the letters of both its neighbours.
+#[derive(Clone, Copy)]
+struct Name(Track);
+
+impl fmt::Display for Name {
+    fn fmt<W: fmt::Write>(&self, f: &mut fmt::Formatter<W>) -> fmt::Result {
+        let track = self.0;
+        write!(f, "{}", letter(track.letter))?;
+        if track.half {
+            write!(f, "{}", letter(track.letter.saturating_add(1)))?;
+        }
+        Ok(())
     }
-    let other = letter(track.letter.saturating_add(1));
-    format!(in heap; "{own}{other}")
 }
 
 // A refused sheet, with the tracks of both flights that show why.
@@ -34,12 +42,8 @@ pub fn print_refused(
 ) -> anyhow::Result<()> {
     let number = fault.number();
     let e = at.encounter();
-    let none = Track {
-        letter: 0,
-        half: false,
-    };
-    let a = name(rt.alloc(), e.value(Side::OfA, 0).unwrap_or(none))?;
-    let b = name(rt.alloc(), e.value(Side::OfB, 0).unwrap_or(none))?;
+    let a = Name(e.value(Side::OfA, 0).unwrap_or(nothing()));
+    let b = Name(e.value(Side::OfB, 0).unwrap_or(nothing()));
     println!(rt; "refused {number}: {a} {b}")?;
     Ok(())
 }
@@ -49,19 +53,13 @@ pub fn print_result(
     rt: &HostRuntime,
     a: Track,
     b: Track,
-    res: Result<Figure, SheetFault>,
+    said: Result<Figure, Lettered>,
 ) -> anyhow::Result<()> {
-    let a = name(rt.alloc(), a)?;
-    let b = name(rt.alloc(), b)?;
-    match res {
-        Ok(figure) => {
-            let miles = figure.value;
-            println!(rt; "{a} {b}: {miles} miles")?;
-        }
-        Err(fault) => {
-            let number = fault.number();
-            println!(rt; "{a} {b}: refused {number}")?;
-        }
+    let a = Name(a);
+    let b = Name(b);
+    match said {
+        Ok(figure) => println!(rt; "{a} {b}: {} miles", figure.value)?,
+        Err(refusal) => println!(rt; "{a} {b}: refused {}", refusal.fault.number())?,
     }
     Ok(())
 }
@@ -69,42 +67,37 @@ pub fn print_result(
 // Two flights 45 miles apart at one level when they pass, and the same exchanged.
 pub fn print_probe(
     rt: &HostRuntime,
-    sheets: &Sheets<'_, '_, '_, '_, '_, Tracks>,
+    sheets: &Sheets<'_, Tracks>,
     e: &Encounter<'_, Track>,
 ) -> anyhow::Result<()> {
-    let a = Fix {
-        level: 350,
-        lateral: 0,
-        time: 0,
+    let flights = Flights {
+        a: Fix {
+            level: 350,
+            lateral: 0,
+            time: 0,
+        },
+        b: Fix {
+            level: 350,
+            lateral: 450,
+            time: 1200,
+        },
+        passing: Passing {
+            direction: Direction::Opposite,
+            time: 600,
+            t: 600,
+        },
     };
-    let b = Fix {
-        level: 350,
-        lateral: 450,
-        time: 1200,
-    };
-    let passing = Passing {
-        direction: Direction::Opposite,
-        time: 600,
-        t: 600,
-    };
-    let turned = Encounter {
-        a: e.b,
-        b: e.a,
-        pair: e.pair,
-    };
-    print_verdict(rt, sheets, e, a, b, passing)?;
-    print_verdict(rt, sheets, &turned, b, a, passing)
+    print_verdict(rt, sheets, e, flights)?;
+    print_verdict(rt, sheets, &e.exchanged(), flights.exchanged())
 }
 
 fn print_verdict(
     rt: &HostRuntime,
-    sheets: &Sheets<'_, '_, '_, '_, '_, Tracks>,
+    sheets: &Sheets<'_, Tracks>,
     e: &Encounter<'_, Track>,
-    a: Fix,
-    b: Fix,
-    passing: Passing,
+    flights: Flights,
 ) -> anyhow::Result<()> {
-    match probe(sheets, e, a, b, passing) {
+    match probe(sheets, e, flights) {
         Ok(verdict) => {
             let vertical = verdict.vertical;
             let lateral = verdict.lateral;
@@ -112,10 +105,7 @@ fn print_verdict(
             let separated = verdict.is_separated();
             println!(rt; "  margins {vertical} {lateral} {longitudinal}, separated: {separated}")?;
         }
-        Err(fault) => {
-            let number = fault.number();
-            println!(rt; "  probe refused {number}")?;
-        }
+        Err(fault) => println!(rt; "  probe refused {}", fault.number())?,
     }
     Ok(())
 }

@@ -1,9 +1,9 @@
 // The sheets, and how they are issued.
 use crate::show::print_refused;
-use anyhow::anyhow;
 use faults::SheetFault;
 use items::{Entry, Mode, Quantity, Row, Scope};
-use lists::lent::{Lists, Showing};
+use lists::lent::Lists;
+use memory::encounter::EncounterMemory;
 use results::ResultKind;
 use results::figure::Figure;
 use sheet::states::{Draft, Issued};
@@ -38,11 +38,10 @@ pub fn write_plain<R: ResultKind>(
     draft.set_default(lists, res)
 }
 
-// Flights that are both on whole tracks need 60 miles; where one is on a half track, 30.
-pub fn write_lateral(
+// Flights that are both on whole tracks need 60 miles.
+pub fn write_whole(
     draft: &mut Draft,
     lists: &mut Lists<'_, Tracks, Figure>,
-    whole_only: bool,
 ) -> Result<(), SheetFault> {
     draft.name_quantity(lists, tracks_of_flights())?;
     draft.add_row(
@@ -60,37 +59,34 @@ pub fn write_lateral(
         },
     )?;
     draft.add_column(lists, Figure { value: 60 })?;
-    draft.set_cell(lists, 0, 0, Entry::Cell(TrackCell::Whole))?;
-    if whole_only {
-        return Ok(());
-    }
+    draft.set_cell(lists, 0, 0, Entry::Cell(TrackCell::Whole))
+}
+
+// Where one is on a half track, they need 30.
+pub fn write_half(
+    draft: &mut Draft,
+    lists: &mut Lists<'_, Tracks, Figure>,
+) -> Result<(), SheetFault> {
     draft.add_column(lists, Figure { value: 30 })?;
     draft.set_cell(lists, 1, 1, Entry::Cell(TrackCell::Half))
 }
 
-// Issues a draft and says what came of it.
+// Issues a draft and says what came of it. A draft that is refused comes back.
 pub fn issue<R: ResultKind>(
     rt: &HostRuntime,
     draft: Draft,
     lists: &Lists<'_, Tracks, R>,
-) -> anyhow::Result<Issued> {
-    let mut a = [nothing(); 16];
-    let mut b = [nothing(); 16];
-    let mut pair = [nothing(); 16];
-    let mut at = Showing {
-        a: &mut a,
-        b: &mut b,
-        pair: &mut pair,
-    };
+) -> anyhow::Result<Result<Issued, Draft>> {
+    let mut encounter = EncounterMemory::new(nothing());
+    let mut at = encounter.lend();
     match draft.issue(lists, &mut at) {
-        Ok(accepted) => {
-            let count = accepted.1;
+        Ok((issued, count)) => {
             println!(rt; "issued {count}")?;
-            Ok(accepted.0)
+            Ok(Ok(issued))
         }
-        Err(back) => {
-            print_refused(rt, back.1, &at)?;
-            Err(anyhow!("a sheet is not issued"))
+        Err((back, fault)) => {
+            print_refused(rt, fault, &at)?;
+            Ok(Err(back))
         }
     }
 }

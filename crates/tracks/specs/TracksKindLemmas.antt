@@ -2,7 +2,7 @@ use Rattle.std.specs.Prelude.{◌≡◌, ◌<◌, ◌≤◌, true, ◌&&◌, Som
 use Rattle.std.proofs.Common.{ap, ap₂}
 use Rattle.std.proofs.lemmas.Bool.{and_parts, leb-true}
 use Rattle.kinds.specs.Meaning.{Before, later}
-use Rattle.kinds.proofs.Earliest.{before-both, earlier-keeps, later-later, later-before}
+use Rattle.kinds.proofs.Earliest.{later-later, later-before, two-later, two-before}
 use Rattle.tracks.specs.Tracks.{place, track_rank, is_track, next, holds_for, is_cell, stop_after, tracks}
 use Rattle.tracks.specs.declared.Track.{Track}
 use Rattle.tracks.specs.declared.TrackCell.{TrackCell}
@@ -16,11 +16,8 @@ both-tracks a z r =
     let q = and_parts (is_track z) (nat_le (track_rank a) (track_rank z)) p.1 in
     (p.0, q.0, leb-true (track_rank a) (track_rank z) q.1)
 
-abbrev pub Later : Track → Track → Type 0
-Later v s = (track_rank v < track_rank s) × (is_track s ≡ true)
-
-pub stops-later : (c : TrackCell) (v s : Track) → stop_after c v ≡ Some s → Later v s
-stops-later (Span a b) v s e = earlier-keeps track_rank (Later v) (later track_rank is_track v a) (later track_rank is_track v (next b)) (later-later track_rank is_track v a) (later-later track_rank is_track v (next b)) s e
+pub stops-later : (c : TrackCell) (v s : Track) → stop_after c v ≡ Some s → (track_rank v < track_rank s) × (is_track s ≡ true)
+stops-later (Span a b) v s e = two-later track_rank is_track v a (next b) s e
 stops-later Whole v s e = later-later track_rank is_track v (next v) s e
 stops-later Half v s e = later-later track_rank is_track v (next v) s e
 
@@ -30,11 +27,11 @@ same-until v w p q k h = same-track v w p q (no-further (place (next v)) (place 
 
 pub steady-cell : (c : TrackCell) (v w : Track) → is_cell c ≡ true → is_track v ≡ true → is_track w ≡ true → track_rank v ≤ track_rank w → Before track_rank w (stop_after c v) → holds_for c v ≡ holds_for c w
 steady-cell (Span a b) v w f p q k h =
-    let s = before-both track_rank (later track_rank is_track v a) (later track_rank is_track v (next b)) w h in
+    let s = two-before track_rank is_track v w a (next b) h in
     let ends = both-tracks a b f in
     ap₂ (λ x y. x && y)
-    (same_from (place a) (place v) (place w) ends.0 k (later-before track_rank is_track v w a s.0))
-    (same-to (place b) (place (next b)) (place v) (place w) ends.1 (place-next b) q k (later-before track_rank is_track v w (next b) s.1))
+    (same_from (place a) (place v) (place w) ends.0 k s.0)
+    (same-to (place b) (place (next b)) (place v) (place w) ends.1 (place-next b) q k s.1)
 steady-cell Whole v w f p q k h = ap (holds_for Whole) (same-until v w p q k h)
 steady-cell Half v w f p q k h = ap (holds_for Half) (same-until v w p q k h)
 

@@ -12,7 +12,7 @@ ghost use Rattle.std.proofs.Common.{arith};
 ghost use Rattle.tracks.specs.Places.{same-track};
 ghost use Rattle.tracks.specs.TracksKindLemmas.{both-tracks, stops-later, steady-cell, in-range};
 
-use kinds::Kind;
+use kinds::{Kind, earlier_by};
 
 // The number of the last letter; A has number 0.
 pub const LAST: u8 = 25;
@@ -43,15 +43,14 @@ pub struct Tracks;
 fn place_of(track: Track) -> u16
     ensures { result ≡ place track }
 {
-    let whole = 2 * u16::from(track.letter);
-    if track.half { whole + 1 } else { whole }
+    2 * u16::from(track.letter) + u16::from(track.half)
 }
 
 // Is it a track? There is none after Z.
 fn is_track(track: Track) -> bool
     ensures { result ≡ is_track track }
 {
-    place_of(track) <= 50
+    place_of(track) <= 2 * u16::from(LAST)
 }
 
 // Is a not after b?
@@ -62,51 +61,25 @@ fn not_after(a: Track, b: Track) -> bool
 }
 
 // The track, if it is one and after another.
+// One function for all kinds, passed their order and test, would make each call longer than this body.
 fn track_after(after: Track, track: Track) -> Option<Track>
     ensures { result ≡ later track_rank is_track after track }
 {
-    if !not_after(track, after) && is_track(track) {
-        Some(track)
-    } else {
-        None
-    }
+    (!not_after(track, after) && is_track(track)).then_some(track)
 }
 
 // The track half a track further on, if it is one and after another.
 fn track_past(after: Track, track: Track) -> Option<Track>
     ensures { result ≡ later track_rank is_track after (next track) }
 {
-    if track.letter > LAST {
-        return None;
-    }
-    if track.half {
-        track_after(
-            after,
-            Track {
-                letter: track.letter + 1,
-                half: false,
-            },
-        )
-    } else {
-        track_after(
-            after,
-            Track {
-                letter: track.letter,
-                half: true,
-            },
-        )
-    }
-}
-
-// The earlier of two stops, or the one there is.
-fn nearer(a: Option<Track>, b: Option<Track>) -> Option<Track>
-    ensures { result ≡ earlier track_rank a b }
-{
-    match (a, b) {
-        (None, o) => o,
-        (Some(x), None) => Some(x),
-        (Some(x), Some(y)) => { if not_after(x, y) { Some(x) } else { Some(y) } }
-    }
+    let letter = track.letter.checked_add(u8::from(track.half))?;
+    track_after(
+        after,
+        Track {
+            letter,
+            half: !track.half,
+        },
+    )
 }
 
 impl Kind for Tracks {
@@ -136,8 +109,7 @@ impl Kind for Tracks {
     fn fits(cell: TrackCell, _least: Track, _greatest: Track) -> bool {
         match cell {
             TrackCell::Span { from, to } => is_track(from) && is_track(to) && not_after(from, to),
-            TrackCell::Whole => true,
-            TrackCell::Half => true,
+            TrackCell::Whole | TrackCell::Half => true,
         }
     }
 
@@ -151,9 +123,10 @@ impl Kind for Tracks {
 
     fn next_stop(cell: TrackCell, after: Track) -> Option<Track> {
         match cell {
-            TrackCell::Span { from, to } => nearer(track_after(after, from), track_past(after, to)),
-            TrackCell::Whole => track_past(after, after),
-            TrackCell::Half => track_past(after, after),
+            TrackCell::Span { from, to } => {
+                earlier_by(track_after(after, from), track_past(after, to), not_after)
+            }
+            TrackCell::Whole | TrackCell::Half => track_past(after, after),
         }
     }
 }

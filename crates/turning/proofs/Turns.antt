@@ -1,15 +1,13 @@
 -- The places of the quantities, one quantity after the other. Assumes nothing.
-use Rattle.std.proofs.Common.{◌≡◌, ℕ, suc, ◌+◌, ◌-◌, ◌<◌, ◌≤◌, Bool, true, false, cond, List, [], ◌∷◌, ◌++◌, length, get_or, take, drop, sym, refl, ap, ◌∙◌, append_assoc, add-one, arith, take-append-drop, length-take}
-use Rattle.items.specs.declared.Scope.{Scope}
-use Rattle.items.specs.declared.Scope.TheVariants.{Flight, Pair}
+use Rattle.std.proofs.Common.{◌≡◌, ℕ, suc, ◌+◌, Bool, true, false, cond, List, [], ◌∷◌, ◌++◌, length, drop, is_some, Some, None, Option, unwrap_or, sym, refl, ap, ◌∙◌, append_assoc, add-one, arith, length-append}
 use Rattle.items.specs.declared.Quantity.{Quantity}
 use Rattle.kinds.specs.Meaning.{Meaning}
-use Rattle.tables.specs.Contents.{Contents, Encounter, Place, places_from, value_of}
-use Rattle.tables.specs.Starts.{reset, turned, turned_at, next_at}
+use Rattle.tables.specs.Contents.{Contents, Encounter, Place, places_from, value_of, put_at}
+use Rattle.tables.specs.Starts.{turned, turned_at, next_at}
 use Rattle.lists.specs.Held.{SameShowing}
 use Rattle.lists.specs.declared.lent.Showing.{Showing}
-use Rattle.outcomes.proofs.Left.{front-here, front-end}
-use Rattle.turning.specs.Turning.{at_least, places_of}
+use Rattle.std.proofs.Math.Seq.{drop-append_seam}
+use Rattle.turning.specs.Turning.{places_of}
 
 pub same-on : {V : Type 0} {a b c : Showing V} → SameShowing a b → SameShowing b c → SameShowing a c
 same-on f s = record { a = s.a ∙ f.a; b = s.b ∙ f.b; pair = s.pair ∙ f.pair }
@@ -22,16 +20,7 @@ module _ {V : Type 0} where
       ap (λ ps. places_of k x x.scope ++ ps) (places-split (suc k) xs ys ∙ ap (λ n. places_from (suc k) xs ++ places_from n ys) q)
       ∙ sym (append_assoc (places_of k x x.scope) (places_from (suc k) xs) (places_from (k + suc (length xs)) ys))
 
-  places-here : (qs : List (Quantity V)) (n i : ℕ) (d : Quantity V) → n ≤ length qs → i < n
-      → places_from i (drop i (take n qs)) ≡ places_of i (get_or qs i d) (get_or qs i d).scope ++ places_from (i + 1) (drop (i + 1) (take n qs))
-  places-here qs n i d long h =
-      ap (places_from i) (front-here qs n i d long h) ∙ ap (λ k. places_of i (get_or qs i d) (get_or qs i d).scope ++ places_from k (drop (i + 1) (take n qs))) (sym (add-one i))
-
 module _ {V C R : Type 0} (m : Meaning V C) (c : Contents V C R) where
-  reset-of : (i : ℕ) (q : Quantity V) (s : Scope) (ps : List (Place V)) (e : Encounter V) → reset m c (places_of i q s ++ ps) e ≡ reset m c ps (at_least i q.least s e)
-  reset-of i q Flight ps e = refl
-  reset-of i q Pair ps e = refl
-
   -- turned values before others that were turned
   turned-after : (ps us : List (Place V)) (e x : Encounter V) → (false, x) ≡ turned m c us e → turned m c ps x ≡ turned m c (ps ++ us) e
   turned-after [] us e x h = h
@@ -41,36 +30,45 @@ module _ {V C R : Type 0} (m : Meaning V C) (c : Contents V C R) where
   turned-stays [] us e x h = h
   turned-stays (p ∷ ps) us e x h = ap (λ s. cond s.0 s (turned_at m c p s (next_at m c p (value_of s.1 p)))) (turned-stays ps us e x h)
 
-  module _ (qs : List (Quantity V)) (n : ℕ) where
-    abbrev on_from : ℕ → List (Place V)
-    on_from i = places_from i (drop i (take n qs))
+  -- a value that has a next start takes it, and another one its least
+  pub moved-on : (p : Place V) (e : Encounter V) (o : Option V) → ◌≡◌ {A = Bool × Encounter V} (is_some o, put_at p (unwrap_or o p.quantity.least) e) (turned_at m c p (false, e) o)
+  moved-on p e None = refl
+  moved-on p e (Some v) = refl
 
-    pub reset-here : (i : ℕ) (d : Quantity V) (e x z : Encounter V) → n ≤ length qs → i < n → x ≡ at_least i (get_or qs i d).least (get_or qs i d).scope e
-        → reset m c (on_from i) e ≡ z → reset m c (on_from (i + 1)) x ≡ z
-    reset-here i d e x z long h is inv =
-        ap (reset m c (on_from (i + 1))) is ∙ sym (reset-of i (get_or qs i d) (get_or qs i d).scope (on_from (i + 1)) e) ∙ sym (ap (λ ps. reset m c ps e) (places-here qs n i d long h)) ∙ inv
+  module _ (qs : List (Quantity V)) where
+    abbrev pub on_from : ℕ → List (Place V)
+    on_from i = places_from i (drop i qs)
 
-    pub reset-end : (i : ℕ) (e z : Encounter V) → n ≤ i → reset m c (on_from i) e ≡ z → e ≡ z
-    reset-end i e z h inv = sym (ap (λ ws. reset m c (places_from i ws) e) (front-end qs n i h)) ∙ inv
+    on-here : (i : ℕ) (q : Quantity V) → drop i qs ≡ q ∷ drop (i + 1) qs → on_from i ≡ places_of i q q.scope ++ on_from (i + 1)
+    on-here i q h = ap (places_from i) h ∙ ap (λ k. places_of i q q.scope ++ places_from k (drop (i + 1) qs)) (sym (add-one i))
 
-    pub turned-start : (e : Encounter V) → (false, e) ≡ turned m c (on_from n) e
-    turned-start e = let h : n ≤ n = omega arith in sym (ap (λ ws. turned m c (places_from n ws) e) (front-end qs n n h))
+    -- the quantities ws that are left come before all others
+    abbrev pub Before : List (Quantity V) → Type 0
+    Before ws = ws ++ drop (length ws) qs ≡ qs
 
-    turned-here : (i : ℕ) (d : Quantity V) (e x : Encounter V) {s : Bool × Encounter V} → n ≤ length qs → i < n → (false, x) ≡ turned m c (on_from (i + 1)) e
-        → s ≡ turned m c (places_of i (get_or qs i d) (get_or qs i d).scope) x → s ≡ turned m c (on_from i) e
-    turned-here i d e x long h before is =
-        is ∙ turned-after (places_of i (get_or qs i d) (get_or qs i d).scope) (on_from (i + 1)) e x before ∙ sym (ap (λ ps. turned m c ps e) (places-here qs n i d long h))
+    module _ (ws us : List (Quantity V)) (q : Quantity V) (before : Before ws) (is : ws ≡ us ++ q ∷ []) where
+      one : length ws ≡ length us + 1
+      one = omega (arith, ap length is, length-append us (q ∷ []))
 
-    pub turned-step : (k : ℕ) (d : Quantity V) (e x y : Encounter V) {b t : Bool} → n ≤ length qs → 0 < k → k ≤ n → (false, x) ≡ turned m c (on_from k) e
-        → (b, y) ≡ turned m c (places_of (k - 1) (get_or qs (k - 1) d) (get_or qs (k - 1) d).scope) x → b ≡ t → (t, y) ≡ turned m c (on_from (k - 1)) e
-    turned-step k d e x y long some few before is b =
-        let q : k ≡ k - 1 + 1 = omega arith in
-        let h : k - 1 < n = omega arith in
-        ap (λ b. (b, y)) (sym b) ∙ turned-here (k - 1) d e x long h (before ∙ ap (λ i. turned m c (on_from i) e) q) is
+      before-it : us ++ q ∷ drop (length us + 1) qs ≡ qs
+      before-it =
+          sym (append_assoc us (q ∷ []) (drop (length us + 1) qs)) ∙ sym (ap (λ n. (us ++ q ∷ []) ++ drop n qs) one) ∙ sym (ap (λ l. l ++ drop (length ws) qs) is) ∙ before
+
+      it : drop (length us) qs ≡ q ∷ drop (length us + 1) qs
+      it = sym (ap (drop (length us)) before-it) ∙ drop-append_seam us (q ∷ drop (length us + 1) qs)
+
+      pub turned-step : (e x y : Encounter V) {b t : Bool} → (false, x) ≡ turned m c (on_from (length ws)) e → (b, y) ≡ turned m c (places_of (length us) q q.scope) x → b ≡ t
+          → Before us × ((t, y) ≡ turned m c (on_from (length us)) e)
+      turned-step e x y rest at b = (
+        ap (λ l. us ++ l) it ∙ before-it,
+        ap (λ b. (b, y)) (sym b) ∙ at
+            ∙ turned-after (places_of (length us) q q.scope) (on_from (length us + 1)) e x (rest ∙ ap (λ i. turned m c (on_from i) e) one)
+            ∙ sym (ap (λ ps. turned m c ps e) (on-here (length us) q it)),
+      )
 
     -- once a value has moved on, those before it stay
-    pub turned-rest : (i : ℕ) (e x : Encounter V) → n ≤ length qs → i ≤ n → (true, x) ≡ turned m c (on_from i) e → (true, x) ≡ turned m c (places_from 0 (take n qs)) e
-    turned-rest i e x long h is =
-        let l : 0 + length (take i (take n qs)) ≡ i = omega (arith, length-take i (take n qs), length-take n qs) in
-        turned-stays (places_from 0 (take i (take n qs))) (on_from i) e x is
-        ∙ ap (λ ps. turned m c ps e) (sym (places-split 0 (take i (take n qs)) (drop i (take n qs)) ∙ ap (λ k. places_from 0 (take i (take n qs)) ++ places_from k (drop i (take n qs))) l) ∙ ap (places_from 0) (take-append-drop i (take n qs)))
+    pub turned-rest : (us : List (Quantity V)) (e x : Encounter V) → Before us → (true, x) ≡ turned m c (on_from (length us)) e → (true, x) ≡ turned m c (places_from 0 qs) e
+    turned-rest us e x before is =
+        let n : 0 + length us ≡ length us = omega arith in
+        turned-stays (places_from 0 us) (on_from (length us)) e x is
+        ∙ ap (λ ps. turned m c ps e) (sym (places-split 0 us (drop (length us) qs) ∙ ap (λ k. places_from 0 us ++ places_from k (drop (length us) qs)) n) ∙ ap (places_from 0) before)

@@ -1,14 +1,16 @@
 // Going through the encounters made of starts one by one, in the caller's lists: the first needed
 // value turns slowest, the last one fastest. Values that no quantity needs are left alone.
+//
+// A quantity and its number are two parameters, as `enumerate` gives them.
 ghost use Rattle.std.specs.Prelude.{◌≡◌, [], ◌∷◌};
-ghost use Rattle.lists.specs.Held.{SameShowing, seen, shown};
-ghost use Rattle.turning.specs.Turning.{at_least, moved, next_of, places_of};
-ghost use Rattle.tables.specs.Contents.{places};
-ghost use Rattle.tables.specs.Starts.{reset as reset_of, turned};
+ghost use Rattle.lists.specs.Held.{SameShowing, encounter_of, seen, shown};
+ghost use Rattle.turning.specs.Turning.{at_least, places_of};
+ghost use Rattle.tables.specs.Contents.{places, value_at};
+ghost use Rattle.tables.specs.Starts.{next_at, reset as reset_of, turned};
 
 use items::{Quantity, Scope, Side};
 use kinds::Kind;
-use lists::lent::Showing;
+use lists::lent::{Encounter, Showing};
 use lists::view::View;
 use results::ResultKind;
 use starts::next::next_start;
@@ -29,47 +31,22 @@ pub fn reset<K: Kind, R: ResultKind>(view: &View<'_, K, R>, at: &mut Showing<'_,
     ensures after { shown at.new ≡ reset_of K.Kind.meaning (seen view.now) (places (seen view.now)) (shown at.old) }
     ensures lent { SameShowing at.old at.new }
 {
-    for i in 0..view.counts.quantities {
-        reset_quantity(i, view.quantities[i], at);
+    for (i, q) in view.quantities_in_use().iter().enumerate() {
+        reset_quantity(i, *q, at);
     }
 }
 
-// The start after a value, if there is a value.
-fn next_after<K: Kind, R: ResultKind>(
+// The start after the value of one side, if there is a value.
+fn next_at<K: Kind, R: ResultKind>(
     view: &View<'_, K, R>,
-    i: usize,
-    greatest: K::Value,
-    value: Option<K::Value>,
-) -> Option<K::Value>
-    ensures { result ≡ next_of K.Kind.meaning (seen view.now) i greatest value }
-{
-    match value {
-        Some(v) => next_start(view, i, greatest, v),
-        None => None,
-    }
-}
-
-// Puts the next start in place, or the least value where there is none: did it move on?
-fn move_on<V: Copy>(
     side: Side,
     i: usize,
-    least: V,
-    next: Option<V>,
-    at: &mut Showing<'_, V>,
-) -> bool
-    ensures after { (result, shown at.new) ≡ moved side i least (shown at.old) next }
-    ensures lent { SameShowing at.old at.new }
+    q: Quantity<K::Value>,
+    e: &Encounter<'_, K::Value>,
+) -> Option<K::Value>
+    ensures { result ≡ next_at K.Kind.meaning (seen view.now) (record { side = side; number = i; quantity = q }) (value_at (encounter_of e.now) side i) }
 {
-    match next {
-        Some(v) => {
-            at.put(side, i, v);
-            true
-        }
-        None => {
-            at.put(side, i, least);
-            false
-        }
-    }
+    next_start(view, i, q.greatest, e.value(side, i)?)
 }
 
 // Moves one value on to its next start, or back to its least: did it move on?
@@ -83,9 +60,9 @@ fn turn_value<K: Kind, R: ResultKind>(
     ensures after { (result, shown at.new) ≡ turned K.Kind.meaning (seen view.now) (record { side = side; number = i; quantity = q } ∷ []) (shown at.old) }
     ensures lent { SameShowing at.old at.new }
 {
-    let value = at.encounter().value(side, i);
-    let next = next_after(view, i, q.greatest, value);
-    move_on(side, i, q.least, next, at)
+    let next = next_at(view, side, i, q, &at.encounter());
+    at.put(side, i, next.unwrap_or(q.least));
+    next.is_some()
 }
 
 // Turns the values of one quantity, B's before A's.
@@ -100,10 +77,7 @@ fn turn_quantity<K: Kind, R: ResultKind>(
 {
     match q.scope {
         Scope::Flight => {
-            if turn_value(view, Side::OfB, i, q, at) {
-                return true;
-            }
-            turn_value(view, Side::OfA, i, q, at)
+            turn_value(view, Side::OfB, i, q, at) || turn_value(view, Side::OfA, i, q, at)
         }
         Scope::Pair => turn_value(view, Side::OfPair, i, q, at),
     }
@@ -114,8 +88,8 @@ pub fn turn<K: Kind, R: ResultKind>(view: &View<'_, K, R>, at: &mut Showing<'_, 
     ensures after { (result, shown at.new) ≡ turned K.Kind.meaning (seen view.now) (places (seen view.now)) (shown at.old) }
     ensures lent { SameShowing at.old at.new }
 {
-    for i in (0..view.counts.quantities).rev() {
-        if turn_quantity(view, i, view.quantities[i], at) {
+    for (i, q) in view.quantities_in_use().iter().enumerate().rev() {
+        if turn_quantity(view, i, *q, at) {
             return true;
         }
     }

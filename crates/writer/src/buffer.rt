@@ -1,12 +1,8 @@
 // A writer into a buffer that the caller lends. One walk serves to measure a page and then to
-// write it.
+// write it: a writer that is not live only counts.
 #[derive(Drop)]
-pub struct Writer<'a> {
+pub struct Writer<'a, const LIVE: bool> {
     pub out: &'a mut [u8],
-    // how many bytes are counted or written so far
-    pub at: usize,
-    // whether bytes are written, or only counted
-    pub live: bool,
-    // whether a byte found no place
-    pub full: bool,
+    // how many bytes are counted or written so far, or none once a byte found no place
+    pub at: Option<usize>,
 }

@@ -4,44 +4,42 @@ ghost use Rattle.std.specs.Fmt.{signed_decimal};
 ghost use Rattle.joined.specs.declared.Either.TheVariants.{Right};
 ghost use Rattle.text.specs.Fields.{rejoined};
 ghost use Rattle.text.specs.Texts.{two_digits, time_text, names_in, band_text, marked_text, names_text, window_text, cell_text, entry_text, mode_text, value_text, kind_text, kind_of};
-ghost use Rattle.writer.specs.Writing.{Wrote, Fresh, buffer, name_text, some_after};
+ghost use Rattle.writer.specs.Writing.{Wrote, Fresh, buffer};
 
 use crate::buffer::Writer;
+use crate::words::Spelled;
 use clock::Window;
 use house::{Cell, Value};
-use items::{Entry, Mode};
+use items::Entry;
 use joined::Either;
-use names::NameSet;
+use measure::Band;
+use names::{NAMES, NameSet};
 
-impl<'a> Writer<'a> {
-    // A writer that counts, from the front of a buffer.
+impl<'a, const LIVE: bool> Writer<'a, LIVE> {
+    // A writer at the front of a buffer.
     pub fn new(out: &'a mut [u8]) -> Self
-        ensures fresh { Fresh false result }
+        ensures fresh { Fresh result }
         ensures kept { buffer result ≡ out.old }
         ensures lender { result.out.ghost_name ≡ out.entry.ghost_name }
     {
-        Writer {
-            out,
-            at: 0,
-            live: false,
-            full: false,
-        }
+        Writer { out, at: Some(0) }
     }
+}
 
+impl<const LIVE: bool> Writer<'_, LIVE> {
     // Writes one byte.
     pub fn byte(&mut self, b: u8)
         ensures { Wrote self.old (b ∷ []) self.new }
     {
-        if self.at >= self.out.len() {
-            self.full = true;
-            return;
-        }
-        if self.live {
-            self.out[self.at] = b;
-            self.at += 1;
-            return;
-        }
-        self.at += 1;
+        self.at = match self.at {
+            Some(at) if at < self.out.len() => {
+                if LIVE {
+                    self.out[at] = b;
+                }
+                Some(at + 1)
+            }
+            _ => None,
+        };
     }
 
     // Writes a word.
@@ -76,10 +74,8 @@ impl<'a> Writer<'a> {
     {
         if z < 0 {
             self.byte(b'-');
-            self.number(z.unsigned_abs() as usize);
-        } else {
-            self.number(z as usize);
         }
+        self.number(z.unsigned_abs() as usize);
     }
 
     // Writes the last two digits of a number.
@@ -110,114 +106,58 @@ impl<'a> Writer<'a> {
         }
     }
 
-    // Writes the word for the kind of a value.
-    pub(crate) fn kind(&mut self, value: Value)
-        ensures { Wrote self.old (kind_text (kind_of value)) self.new }
+    // Writes the word of a kind, of a mode or of a line.
+    pub(crate) fn spelled<S: Spelled + Drop>(&mut self, s: S)
+        ensures { Wrote self.old (S.spelling s) self.new }
     {
-        match value {
-            Either::Left(_) => self.word(b"measure"),
-            Either::Right(Either::Left(_)) => self.word(b"names"),
-            Either::Right(Either::Right(_)) => self.word(b"clock"),
-        }
+        self.word(s.spelled());
     }
 
-    // Writes a mode.
-    pub(crate) fn mode(&mut self, mode: Mode)
-        ensures { Wrote self.old (mode_text mode) self.new }
+    // Writes a band, as `0..280`, after a bang where it means outside.
+    fn band(&mut self, band: Band)
+        ensures { Wrote self.old (marked_text band.inside band.lo band.hi) self.new }
     {
-        match mode {
-            Mode::A => self.word(b"A"),
-            Mode::B => self.word(b"B"),
-            Mode::Both => self.word(b"both"),
-            Mode::Either => self.word(b"either"),
-            Mode::Pair => self.word(b"pair"),
+        if !band.inside {
+            self.byte(b'!');
         }
-    }
-
-    // Writes a name of a set, after a comma where some stand before it.
-    fn name(&mut self, some: bool, n: u32)
-        ensures { Wrote self.old (if some then 44 ∷ decimal n else decimal n) self.new }
-    {
-        if some {
-            self.byte(b',');
-            self.number(n as usize);
-            return;
-        }
-        self.number(n as usize);
-    }
-
-    // Writes a name if the lowest bit of what is left of its set says so, and tells whether some
-    // are written.
-    fn name_step(&mut self, some: bool, n: u32, left: u32) -> bool
-        ensures wrote { Wrote self.old (name_text some n left) self.new }
-        ensures some { result ≡ some_after some left }
-    {
-        if left % 2 == 1 {
-            self.name(some, n);
-            return true;
-        }
-        some
+        self.measure(band.lo);
+        self.word(b"..");
+        self.measure(band.hi);
     }
 
     // Writes the names of a set, parted by commas.
-    fn names(&mut self, bits: u32)
-        ensures { Wrote self.old (rejoined 44 (map decimal (names_in 32 0 bits))) self.new }
+    fn names(&mut self, set: NameSet)
+        ensures { Wrote self.old (rejoined 44 (map decimal (names_in 32 0 set.bits))) self.new }
     {
-        let mut left = bits;
+        // A chain over `filter` gets no proof in a function with a const parameter.
         let mut some = false;
-        for n in 0..32 {
-            some = self.name_step(some, n, left);
-            left = left / 2;
+        for n in 0..NAMES {
+            if set.contains(n) {
+                if some {
+                    self.byte(b',');
+                }
+                self.number(n as usize);
+                some = true;
+            }
         }
-    }
-
-    // Writes a band, as `0..280`.
-    fn band(&mut self, lo: i32, hi: i32)
-        ensures { Wrote self.old (band_text lo hi) self.new }
-    {
-        self.measure(lo);
-        self.word(b"..");
-        self.measure(hi);
-    }
-
-    // Writes a band that means inside, or after a bang, outside.
-    fn marked(&mut self, inside: bool, lo: i32, hi: i32)
-        ensures { Wrote self.old (marked_text inside lo hi) self.new }
-    {
-        if inside {
-            self.band(lo, hi);
-            return;
-        }
-        self.byte(b'!');
-        self.band(lo, hi);
     }
 
     // Writes a set of names, as `{0,3}`.
-    fn braced(&mut self, bits: u32)
-        ensures { Wrote self.old (names_text bits) self.new }
+    fn braced(&mut self, set: NameSet)
+        ensures { Wrote self.old (names_text set.bits) self.new }
     {
         self.byte(b'{');
-        self.names(bits);
+        self.names(set);
         self.byte(b'}');
     }
 
     // Writes a window, as `22:00-05:59`.
-    fn window(&mut self, start: u16, end: u16)
-        ensures { Wrote self.old (window_text start end) self.new }
+    fn window(&mut self, window: Window)
+        ensures { Wrote self.old (window_text window.start window.end) self.new }
     {
-        self.time(start);
+        self.time(window.start);
         self.byte(b'-');
-        self.time(end);
-    }
-
-    // Writes a set of names or a window.
-    fn names_or_window(&mut self, cell: Either<NameSet, Window>)
-        ensures { Wrote self.old (cell_text (Right cell)) self.new }
-    {
-        match cell {
-            Either::Left(set) => self.braced(set.bits),
-            Either::Right(window) => self.window(window.start, window.end),
-        }
+        self.time(window.end);
     }
 
     // Writes a cell.
@@ -225,8 +165,9 @@ impl<'a> Writer<'a> {
         ensures { Wrote self.old (cell_text cell) self.new }
     {
         match cell {
-            Either::Left(band) => self.marked(band.inside, band.lo, band.hi),
-            Either::Right(other) => self.names_or_window(other),
+            Either::Left(band) => self.band(band),
+            Either::Right(Either::Left(set)) => self.braced(set),
+            Either::Right(Either::Right(window)) => self.window(window),
         }
     }
 

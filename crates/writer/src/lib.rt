@@ -5,3 +5,4 @@
 pub mod buffer;
 pub mod fields;
 pub mod lines;
+mod words;

@@ -6,44 +6,21 @@ ghost use Rattle.text.specs.Texts.{entry_text, line_text, scope_word, word_text,
 ghost use Rattle.writer.specs.Writing.{Wrote, Fresh, buffer};
 
 use crate::buffer::Writer;
+use crate::words::{kind_of, scope_word};
 use house::{Cell, Value};
-use items::{Entry, Quantity, Row, Scope};
+use items::{Entry, Quantity, Row};
 use results::figure::Figure;
 use text::types::Word;
 
-impl Writer<'_> {
-    // Writes the first word of a line.
-    fn first(&mut self, word: Word)
-        ensures { Wrote self.old (word_text word) self.new }
-    {
-        match word {
-            Word::Flight => self.word(b"flight"),
-            Word::Pair => self.word(b"pair"),
-            Word::Row => self.word(b"row"),
-            Word::Column => self.word(b"column"),
-            Word::Never => self.word(b"never"),
-            Word::Default => self.word(b"default"),
-            Word::End => self.word(b"end"),
-        }
-    }
-
-    // Writes the first word of a quantity's line.
-    fn scope(&mut self, scope: Scope)
-        ensures { Wrote self.old (word_text (scope_word scope)) self.new }
-    {
-        match scope {
-            Scope::Flight => self.first(Word::Flight),
-            Scope::Pair => self.first(Word::Pair),
-        }
-    }
-
-    // Writes the line of a quantity.
+impl<const LIVE: bool> Writer<'_, LIVE> {
+    // Writes the line of a quantity. A closure for the fields of a line would take a clause as long as
+    // the line, so each line puts its spaces and its end itself.
     pub fn quantity(&mut self, quantity: Quantity<Value>)
         ensures { Wrote self.old (line_text (say_quantity quantity)) self.new }
     {
-        self.scope(quantity.scope);
+        self.spelled(scope_word(quantity.scope));
         self.byte(b' ');
-        self.kind(quantity.least);
+        self.spelled(kind_of(quantity.least));
         self.byte(b' ');
         self.value(quantity.least);
         self.byte(b' ');
@@ -55,11 +32,11 @@ impl Writer<'_> {
     pub fn row(&mut self, row: Row)
         ensures { Wrote self.old (line_text (say_row row)) self.new }
     {
-        self.first(Word::Row);
+        self.spelled(Word::Row);
         self.byte(b' ');
         self.number(row.quantity);
         self.byte(b' ');
-        self.mode(row.mode);
+        self.spelled(row.mode);
         self.byte(b'\n');
     }
 
@@ -84,7 +61,7 @@ impl Writer<'_> {
     pub fn column(&mut self, res: Figure, entries: &[Entry<Cell>])
         ensures { Wrote self.old (line_text (say_column res entries.now)) self.new }
     {
-        self.first(Word::Column);
+        self.spelled(Word::Column);
         self.byte(b' ');
         self.figure(res);
         self.entries(entries);
@@ -95,7 +72,7 @@ impl Writer<'_> {
     pub fn never(&mut self, entries: &[Entry<Cell>])
         ensures { Wrote self.old (line_text (say_never entries.now)) self.new }
     {
-        self.first(Word::Never);
+        self.spelled(Word::Never);
         self.entries(entries);
         self.byte(b'\n');
     }
@@ -104,7 +81,7 @@ impl Writer<'_> {
     pub fn default(&mut self, res: Figure)
         ensures { Wrote self.old (line_text (say_default res)) self.new }
     {
-        self.first(Word::Default);
+        self.spelled(Word::Default);
         self.byte(b' ');
         self.figure(res);
         self.byte(b'\n');
@@ -115,20 +92,5 @@ impl Writer<'_> {
         ensures { Wrote self.old (codes "end\n") self.new }
     {
         self.word(b"end\n");
-    }
-
-    // Whether all that was counted has found place; writing then starts from the front.
-    pub fn start(&mut self) -> bool
-        ensures fits { result ≡ not self.old.full }
-        ensures fresh { result ≡ true → Fresh true self.new }
-        ensures kept { buffer self.new ≡ buffer self.old }
-        ensures lender { self.new.out.ghost_name ≡ self.old.out.ghost_name }
-    {
-        if self.full {
-            return false;
-        }
-        self.at = 0;
-        self.live = true;
-        true
     }
 }

@@ -19,10 +19,7 @@ use Rattle.writer.proofs.Wrote.{wrote_none, wrote-more, wrote_as}
 abbrev pub texts : List Said → List ℕ
 texts xs = flat_map line_text xs
 
--- texts written one after another
-pub ruleset one_after_another = wrote-more
-
-module _ {w v u : Writer} where
+module _ {live : ℕ} {w v u : Writer live} where
   -- one line more
   line_on : (xs : List Said) (x : Said) → Wrote w (texts xs) v → Wrote v (line_text x) u → Wrote w (texts (xs ++ (x ∷ []))) u
   line_on xs x a b = wrote_as (flat_map_more line_text [] xs x) (wrote-more a b)
@@ -47,11 +44,11 @@ module _ {w v u : Writer} where
       let e = column_of es n (16 + j) in
       wrote_as (ap texts (sym (map_push say_never ns e) ∙ ap (map say_never) (sym (map-range_with_len_more (λ j. column_of es n (16 + j)) 0 j j (omega arith))))) (line_on (map say_never ns) (say_never e) a b)
 
-pub default_none : (w : Writer) (o : Option Figure) → None ≡ o → Wrote w (texts (default_lines o)) w
+pub default_none : {live : ℕ} (w : Writer live) (o : Option Figure) → None ≡ o → Wrote w (texts (default_lines o)) w
 default_none w o e = wrote_as (ap (λ o. texts (default_lines o)) e) (wrote_none w)
 
 -- lines and then others
-both : {w v u : Writer} (xs ys : List Said) → Wrote w (texts xs) v → Wrote v (texts ys) u → Wrote w (texts (xs ++ ys)) u
+both : {live : ℕ} {w v u : Writer live} (xs ys : List Said) → Wrote w (texts xs) v → Wrote v (texts ys) u → Wrote w (texts (xs ++ ys)) u
 both xs ys a b = wrote_as (texts-both xs ys) (wrote-more a b)
   where
     texts-both : (xs ys : List Said) → texts xs ++ texts ys ≡ texts (xs ++ ys)
@@ -75,5 +72,5 @@ module _ (c : Contents Value Cell Figure) where
   abbrev end : List Said
   end = default_lines c.default
 
-  pub sections-on : {w a b d e u : Writer} → Wrote w (texts quantities) a → Wrote a (texts rows) b → Wrote b (texts columns) d → Wrote d (texts nevers) e → Wrote e (texts end) u → Wrote w (texts (lines_of c)) u
+  pub sections-on : {live : ℕ} {w a b d e u : Writer live} → Wrote w (texts quantities) a → Wrote a (texts rows) b → Wrote b (texts columns) d → Wrote d (texts nevers) e → Wrote e (texts end) u → Wrote w (texts (lines_of c)) u
   sections-on p q r s t = both quantities (rows ++ (columns ++ (nevers ++ end))) p (both rows (columns ++ (nevers ++ end)) q (both columns (nevers ++ end) r (both nevers end s t)))

@@ -15,6 +15,7 @@ pub(crate) fn gathered(view: &PageView<'_>, column: usize) -> [Entry<Cell>; 16]
     requires { column < 24 }
     ensures { take view.now.counts.rows result ≡ column_of view.now.entries.now view.now.counts.rows column }
 {
+    // Over `view.column` it stays open that a turn's place is below 16.
     let mut all = [Entry::Any; 16];
     for i in 0..view.counts.rows {
         all[i] = view.entries[24 * i + column];

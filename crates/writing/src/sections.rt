@@ -1,4 +1,6 @@
 // The lines of a sheet's page, section by section.
+//
+// What is written and where to are two parameters: each contract speaks of the writer alone.
 ghost use Rattle.std.specs.Prelude.{◌≡◌, ◌+◌, ◌<◌, map, pos, slice_index_or};
 ghost use Rattle.lists.specs.Held.{seen};
 ghost use Rattle.pages.specs.Writes.{default_lines, lines_of, text_of};
@@ -8,86 +10,66 @@ ghost use Rattle.text.specs.Texts.{line_text, say_quantity, say_row, say_column,
 ghost use Rattle.writer.specs.Writing.{Wrote};
 
 use crate::gathering::{PageView, gathered};
-use lists::places::nth;
-use results::figure::Figure;
 use writer::buffer::Writer;
 
 // The lines of the quantities.
-fn quantities(view: &PageView<'_>, writer: &mut Writer<'_>)
+fn quantities<const LIVE: bool>(view: &PageView<'_>, writer: &mut Writer<'_, LIVE>)
     ensures { Wrote writer.old (flat_map line_text (map say_quantity (seen view.now).quantities)) writer.new }
 {
-    for i in 0..view.counts.quantities {
-        writer.quantity(view.quantities[i]);
+    for quantity in view.quantities_in_use() {
+        writer.quantity(*quantity);
     }
 }
 
 // The lines of the rows.
-fn rows(view: &PageView<'_>, writer: &mut Writer<'_>)
+fn rows<const LIVE: bool>(view: &PageView<'_>, writer: &mut Writer<'_, LIVE>)
     ensures { Wrote writer.old (flat_map line_text (map say_row (seen view.now).rows)) writer.new }
 {
-    for i in 0..view.counts.rows {
-        writer.row(view.rows[i]);
+    for row in view.rows_in_use() {
+        writer.row(*row);
     }
 }
 
-// The line of a column.
-fn column(view: &PageView<'_>, j: usize, writer: &mut Writer<'_>)
-    requires { j < 16 }
-    ensures { Wrote writer.old (line_text (say_column (slice_index_or view.now.results.now j (record { value = pos 0 })) (column_of view.now.entries.now view.now.counts.rows j))) writer.new }
-{
-    let entries = gathered(view, j);
-    writer.column(view.results[j], &entries[0..view.counts.rows]);
-}
-
 // The lines of the columns.
-fn columns(view: &PageView<'_>, writer: &mut Writer<'_>)
+fn columns<const LIVE: bool>(view: &PageView<'_>, writer: &mut Writer<'_, LIVE>)
     ensures { Wrote writer.old (flat_map line_text (map (λ k. say_column k.result k.entries) (seen view.now).columns)) writer.new }
 {
-    for j in 0..view.counts.columns {
-        column(view, j, writer);
+    for (j, result) in view.results_in_use().iter().enumerate() {
+        let entries = gathered(view, j);
+        writer.column(*result, &entries[..view.counts.rows]);
     }
 }
 
 // The line of a never.
-fn never(view: &PageView<'_>, j: usize, writer: &mut Writer<'_>)
+fn never<const LIVE: bool>(view: &PageView<'_>, j: usize, writer: &mut Writer<'_, LIVE>)
     requires { j < 8 }
     ensures { Wrote writer.old (line_text (say_never (column_of view.now.entries.now view.now.counts.rows (16 + j)))) writer.new }
 {
     let entries = gathered(view, 16 + j);
-    writer.never(&entries[0..view.counts.rows]);
+    writer.never(&entries[..view.counts.rows]);
 }
 
 // The lines of the nevers.
-fn nevers(view: &PageView<'_>, writer: &mut Writer<'_>)
+fn nevers<const LIVE: bool>(view: &PageView<'_>, writer: &mut Writer<'_, LIVE>)
     ensures { Wrote writer.old (flat_map line_text (map say_never (seen view.now).nevers)) writer.new }
 {
+    // by number: nevers have no list of their own, their entries lie beside those of the columns
     for j in 0..view.counts.nevers {
         never(view, j, writer);
     }
 }
 
-// The default result, if there is one.
-fn default_result(view: &PageView<'_>) -> Option<Figure>
-    ensures { result ≡ (seen view.now).default }
-{
-    if view.counts.default {
-        nth(view.results, 16)
-    } else {
-        None
-    }
-}
-
 // The line of a default, if there is one.
-fn default(view: &PageView<'_>, writer: &mut Writer<'_>)
+fn default<const LIVE: bool>(view: &PageView<'_>, writer: &mut Writer<'_, LIVE>)
     ensures { Wrote writer.old (flat_map line_text (default_lines (seen view.now).default)) writer.new }
 {
-    if let Some(result) = default_result(view) {
+    if let Some(result) = view.default_result() {
         writer.default(result);
     }
 }
 
 // The lines before the last.
-fn lines(view: &PageView<'_>, writer: &mut Writer<'_>)
+fn lines<const LIVE: bool>(view: &PageView<'_>, writer: &mut Writer<'_, LIVE>)
     ensures { Wrote writer.old (flat_map line_text (lines_of (seen view.now))) writer.new }
 {
     quantities(view, writer);
@@ -98,8 +80,7 @@ fn lines(view: &PageView<'_>, writer: &mut Writer<'_>)
 }
 
 // The whole page.
-#[tactic(auto, using(crate::proofs::LinesOn::one_after_another))]
-pub(crate) fn page(view: &PageView<'_>, writer: &mut Writer<'_>)
+pub(crate) fn page<const LIVE: bool>(view: &PageView<'_>, writer: &mut Writer<'_, LIVE>)
     ensures { Wrote writer.old (text_of (seen view.now)) writer.new }
 {
     lines(view, writer);

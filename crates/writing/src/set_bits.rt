@@ -6,7 +6,7 @@ use house::Cell;
 use items::Entry;
 use joined::Either;
 
-// An entry with no bit beyond the names.
+// An entry with no bit beyond the names: a proof learns a number's range where the code reads it.
 fn only_names_of(entry: Entry<Cell>)
     ensures { EntryOnlyNames entry }
 {

@@ -11,52 +11,26 @@ ghost use Rattle.writer.specs.Writing.{Fresh, buffer};
 use crate::gathering::PageView;
 use crate::sections::page;
 use crate::set_bits::only_names;
-use faults::SheetFault;
 use house::House;
-use items::Counts;
 use lists::lent::Lists;
-use lists::view::View;
 use page_faults::WriteFault;
 use results::figure::Figure;
 use sheet::states::Draft;
 use writer::buffer::Writer;
 
-// A view of lists that are in order.
-fn view<'a>(counts: Counts, lists: &'a Lists<'_, House, Figure>) -> PageView<'a>
-    requires { (Bounded counts) × (in_order house_kinds figures counts (lists_of lists.now) ≡ true) }
-    ensures { seen result ≡ contents_of counts (lists_of lists.now) }
-{
-    View {
-        counts,
-        quantities: lists.quantities,
-        rows: lists.rows,
-        entries: lists.entries,
-        results: lists.results,
-    }
-}
-
-// Counts the page's bytes, and writes them where there is room for all of them.
-fn walk(view: &PageView<'_>, writer: &mut Writer<'_>) -> Result<usize, WriteFault>
-    requires { Fresh false writer.old }
-    ensures answer { result ≡ room_answer (text_of (seen view.now)) (buffer writer.old) }
-    ensures left { buffer writer.new ≡ room_leaves (text_of (seen view.now)) (buffer writer.old) }
-    ensures lender { writer.new.out.ghost_name ≡ writer.old.out.ghost_name }
-{
-    page(view, writer);
-    if !writer.start() {
-        return Err(WriteFault::NoRoom);
-    }
-    page(view, writer);
-    Ok(writer.at)
-}
-
-// Writes the page of a sheet in front of a buffer.
+// Counts the bytes of a sheet's page, and writes it in front of a buffer that has room for all of
+// them.
 fn write_page(view: &PageView<'_>, out: &mut [u8]) -> Result<usize, WriteFault>
     ensures answer { result ≡ room_answer (text_of (seen view.now)) out.old }
     ensures left { out.new ≡ room_leaves (text_of (seen view.now)) out.old }
 {
-    let mut writer = Writer::new(out);
-    walk(view, &mut writer)
+    // A writer made of the counter by value would lose, in a proof, the buffer that is lent.
+    let mut counter = Writer::<false>::new(out);
+    page(view, &mut counter);
+    let length = counter.at.ok_or(WriteFault::NoRoom)?;
+    let mut writer = Writer::<true>::new(out);
+    page(view, &mut writer);
+    Ok(length)
 }
 
 // Writes the page of a draft in front of a buffer and tells its length, or why not: the lists are
@@ -71,10 +45,7 @@ pub fn write(
     ensures left { out.new ≡ write_leaves draft.now.counts (lists_of lists.now) out.old }
     ensures rightly { in_order house_kinds figures draft.now.counts (lists_of lists.now) ≡ true → WrittenRightly draft.now.counts (lists_of lists.now) }
 {
-    let counts = draft.counts();
-    if !lists.in_order(counts) {
-        return Err(WriteFault::Call(SheetFault::Lists));
-    }
+    let view = lists.checked(draft.counts())?;
     only_names(lists.entries);
-    write_page(&view(counts, lists), out)
+    write_page(&view, out)
 }

@@ -5,14 +5,10 @@ use Rattle.asking.specs.Asks.{asked_of}
 use Rattle.calling.proofs.Steps.{exited, calls-stop}
 use Rattle.calling.proofs.calls.add.Goals as goal
 
-pub returns-in_err-ask : goal.returns-in_err-ask
-returns-in_err-ask c =
+pub returns-in_err-ask-clause-went : goal.returns-in_err-ask-clause-went
+returns-in_err-ask-clause-went c =
     let k = asked_of c.args.added in
     let more = cells_from c.args.column 0 c.args.said.now in
-    let h = c.in_err-ask.ensures in
     let f = c.in_err-ask.field-0.0 in
     let r = c.from_residual.result in
-    record {
-      went = calls-stop (k ∷ more) k more c.args.draft.now.counts c.ask.new.draft.counts (lists_of c.args.lists.now) (lists_of c.ask.new.lists) refl f r h.went (exited r f c.from_residual.ensures.1);
-      lent = h.lent;
-    }
+    calls-stop (k ∷ more) k more c.args.draft.now.counts c.ask.new.draft.counts (lists_of c.args.lists.now) (lists_of c.ask.new.lists) refl f r c.in_err-ask.ensures.went (exited r f c.from_residual.ensures.1)

@@ -3,8 +3,8 @@ use Rattle.lists.specs.Held.{SameLists, lists_of}
 use Rattle.pages.specs.Reads.{cells_from, make_all}
 use Rattle.calling.proofs.calls.ask_entries.Given as goal
 
-abbrev pub invariant-loop-i : goal.invariant-loop-i
-invariant-loop-i l =
-    (make_all (cells_from l.column l.i (drop l.i l.said)) l.draft.counts (lists_of l.lists)
+abbrev pub invariant-loop-row : goal.invariant-loop-row
+invariant-loop-row l =
+    (make_all (cells_from l.column l.row (drop l.row l.said)) l.draft.counts (lists_of l.lists)
     ≡ make_all (cells_from l.column 0 l.said) l.initial.draft.counts (lists_of l.initial.lists))
     × SameLists l.initial.lists l.lists

@@ -1,16 +1,15 @@
-use Rattle.std.proofs.Common.{[], ◌∷◌}
+use Rattle.std.proofs.Common.{[], ◌∷◌, ◌∙◌}
 use Rattle.lines.specs.Left.{left, byte}
 use Rattle.lists.specs.Held.{lists_of}
 use Rattle.text.specs.Lines.{quantity, quantity_line}
 use Rattle.asking.specs.Asks.{asked_of}
-use Rattle.calling.proofs.Said.{line-goes}
+use Rattle.calling.proofs.Said.{said-is, line-goes}
 use Rattle.calling.proofs.calls.quantity.Goals as goal
 
-pub returns-in-Ok : goal.returns-in-Ok
-returns-in-Ok c =
+pub returns-clause-went : goal.returns-clause-went
+returns-clause-went c =
     let n = c.args.draft.now.counts in
     let s = c.args.fields.now in
-    record {
-      went = line-goes (quantity c.args.scope (byte s) (left s)) c.in-Ok.said quantity_line (asked_of c.quantity.result ∷ []) n c.ask.new.draft.counts (lists_of c.args.lists.now) (lists_of c.ask.new.lists) c.ask.result c.in-Ok.ensures (c.quantity.ensures n) (c.ask.ensures.went []);
-      lent = c.ask.ensures.lent;
-    }
+    let said = c.in_ok-said.said in
+    line-goes (quantity c.args.scope (byte s) (left s)) said quantity_line (asked_of c.quantity.result ∷ []) n c.ask.new.draft.counts (lists_of c.args.lists.now) (lists_of c.ask.new.lists) c.ask.result
+    (said-is c.quantity_line.result c.map_err.result _ said c.map_err.ensures.cases c.in_ok-said.was ∙ c.quantity_line.ensures) (c.quantity.ensures n) (c.ask.ensures.went [])

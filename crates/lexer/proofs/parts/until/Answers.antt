@@ -1,12 +1,19 @@
-use Rattle.std.proofs.Common.{arith}
-use Rattle.text.proofs.Parts.{up_to-on, up_to-here, up_to-end}
+use Rattle.std.proofs.Common.{◌≡◌, ◌+◌, not, eqb, drop, sym, ap, ◌∙◌, arith, rules, tests, length-drop}
+use Rattle.std.proofs.lemmas.Iterator.{YieldsList-from_slice}
+use Rattle.std.proofs.lemmas.Iterator.Adapters.{YieldsList-from_skip}
+use Rattle.std.proofs.lemmas.Iterator.Consumers.{count_from_yields_List}
+use Rattle.std.proofs.lemmas.Iterator.Search.{YieldsList-from_take_while}
+use Rattle.std.proofs.lemmas.List.Folds.{length-prefix_len}
+use Rattle.text.specs.Fields.{up_to}
+use Rattle.text.proofs.Parts.{up_to-le}
+use Rattle.lexer.proofs.Splits.{up_to-prefix}
 use Rattle.lexer.proofs.parts.until.Goals as goal
 
-pub loop-at-preserved : goal.loop-at-preserved
-loop-at-preserved c = (omega (arith, up_to-on c.args.sep c.args.bytes.now c.loop-at.at (omega arith) c.if-bytes-at.true), λ h. omega arith)
-
-pub returns-else-bytes-at : goal.returns-else-bytes-at
-returns-else-bytes-at c = (omega (arith, up_to-here c.args.sep c.args.bytes.now c.loop-at.at (omega arith) c.if-bytes-at.false), c.loop-at.invariant.1)
-
-pub returns-after-loop-at : goal.returns-after-loop-at
-returns-after-loop-at c = (omega (arith, up_to-end c.args.sep c.args.bytes.now c.loop-at.at (omega arith)), c.loop-at.invariant.1)
+pub returns : goal.returns
+returns c =
+    let bytes = c.args.bytes.now in
+    let left = drop c.args.from bytes in
+    let n : c.count.result ≡ up_to c.args.sep left =
+    count_from_yields_List c.take_while.result _ c.count.ensures.ran (YieldsList-from_take_while _ (λ b. not (eqb b c.args.sep)) (YieldsList-from_skip c.args.from (YieldsList-from_slice bytes cc) cc) c.take_while.ensures.closure c.take_while.ensures.done (λ x b q k. search (rules, tests)))
+    ∙ length-prefix_len (λ b. not (eqb b c.args.sep)) left ∙ sym (up_to-prefix c.args.sep left) in
+    (ap (λ m. c.args.from + m) n, λ h. omega (arith, n, up_to-le c.args.sep left, length-drop c.args.from bytes))

@@ -5,5 +5,5 @@ use Rattle.lookups.proofs.answer.look_up_in.Goals as goal
 
 pub returns : goal.returns
 returns g c = λ few.
-    let h = c.in_ok-view.ensures.answer few in
+    let h = c.in_ok-checked.ensures.answer few in
     c.answer.ensures ∙ answer-first g.K.Kind.meaning g.R.ResultKind.results (encounter_of c.args.e.now) c.args.counts _ (lists_of c.args.lists.now) _ h.0 h.1 h.2

@@ -1,10 +1,11 @@
-use Rattle.std.proofs.Common.{◌∙◌}
+use Rattle.std.proofs.Common.{◌≡◌, true, false, rules}
+use Rattle.std.proofs.lemmas.Iterator.{first_from_Range}
 use Rattle.names.specs.NameSets.{turns}
-use Rattle.names.specs.Runs.{first-here}
+use Rattle.names.specs.Runs.{first-found}
 use Rattle.names.proofs.NamesKind.next_stop.Goals as goal
 
-pub returns-then-turns_at : goal.returns-then-turns_at
-returns-then-turns_at c = first-here (turns c.args.cell) c.loop-w.w 32 c.loop-w-test.true c.turns_at.ensures c.if-turns_at.true ∙ c.loop-w.invariant
-
-pub loop-w-preserved : goal.loop-w-preserved
-loop-w-preserved c = first-here (turns c.args.cell) c.loop-w.w 32 c.loop-w-test.true c.turns_at.ensures c.if-turns_at.false ∙ c.loop-w.invariant
+pub returns : goal.returns
+returns c =
+    let test = turns c.args.cell in
+    first-found test c.args.after _ c.find.result c.saturating_add.ensures
+    (first_from_Range _ _ _ _ (λ i. test i ≡ true) (λ i. test i ≡ false) c.find.ensures.ran (λ x q k. search rules) (λ x q k. (search rules, search rules)))

@@ -1,25 +1,20 @@
-use Rattle.std.proofs.Common.{◌+◌, ◌*◌, ◌<◌, ◌≤◌, length, sym, ◌∙◌, arith}
-use Rattle.items.specs.declared.Mode.TheVariants.{A}
-use Rattle.tables.specs.Outcomes.{met}
-use Rattle.lists.specs.Held.{encounter_of}
-use Rattle.outcomes.proofs.Left.{below_end}
-use Rattle.outcomes.proofs.Steps.{met-here}
+use Rattle.std.proofs.Common.{zip, ◌∙◌, rules, tests, ◌≡◌, ap, arith, min}
+use Rattle.std.proofs.lemmas.Iterator.Consumers.{YieldsList-from_first}
+use Rattle.tables.specs.Outcomes.{entry_holds}
+use Rattle.tables.specs.Storage.{column_of}
+use Rattle.lists.specs.Held.{encounter_of, seen}
+use Rattle.lists.specs.Rows.{rows_left}
+use Rattle.lists.proofs.Chains.{all_of_chain}
+use Rattle.outcomes.proofs.Steps.{met-by-row}
 use Rattle.outcomes.proofs.judge.is_met.Goals as goal
-
-pub returns-then-not-entry_holds : goal.returns-then-not-entry_holds
-returns-then-not-entry_holds g c =
-    let long : c.args.view.now.counts.rows ≤ length c.args.view.now.rows.now = omega arith in
-    let inside : 24 * c.loop-i.i + c.args.column < length c.args.view.now.entries.now = omega arith in
-    met-here g.K.Kind.meaning (encounter_of c.args.e.now) c.args.view.now.rows.now c.args.view.now.entries.now c.args.view.now.counts.rows c.args.column
-    c.loop-i.i (record { quantity = 0; mode = A }) c.index-view-i.result long c.loop-i-test.true inside c.entry_holds.ensures c.if-not-entry_holds.true c.loop-i.invariant
-
-pub loop-i-preserved : goal.loop-i-preserved
-loop-i-preserved g c =
-    let long : c.args.view.now.counts.rows ≤ length c.args.view.now.rows.now = omega arith in
-    let inside : 24 * c.loop-i.i + c.args.column < length c.args.view.now.entries.now = omega arith in
-    met-here g.K.Kind.meaning (encounter_of c.args.e.now) c.args.view.now.rows.now c.args.view.now.entries.now c.args.view.now.counts.rows c.args.column
-    c.loop-i.i (record { quantity = 0; mode = A }) c.index-view-i.result long c.loop-i-test.true inside c.entry_holds.ensures c.if-not-entry_holds.false c.loop-i.invariant
 
 pub returns : goal.returns
 returns g c =
-    sym (below_end (λ ws xs. met g.K.Kind.meaning ws xs (encounter_of c.args.e.now)) c.args.view.now.rows.now c.args.view.now.entries.now c.args.view.now.counts.rows c.args.column c.loop-i.i c.loop-i-test.false) ∙ c.loop-i.invariant
+    let m = g.K.Kind.meaning in
+    let e = encounter_of c.args.e.now in
+    let v = c.args.view.now in
+    let within : min c.args.column 23 ≡ c.args.column = omega (arith, c.requires) in
+    let ws = (seen v).rows in
+    let xs = column_of v.entries.now v.counts.rows c.args.column in
+    all_of_chain (λ p. entry_holds m p.0 p.1 e) c.all.new.self _ _ c.all.ensures.ran (YieldsList-from_first (λ x. x) rows_left (zip ws xs) (c.column.ensures ∙ ap (λ j. zip ws (column_of v.entries.now v.counts.rows j)) within)) (λ x b q k. search (rules, tests))
+    ∙ met-by-row m e ws xs

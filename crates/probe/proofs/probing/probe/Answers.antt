@@ -7,6 +7,6 @@ use Rattle.probe.proofs.probing.probe.Goals as goal
 pub returns : goal.returns
 returns g c = record {
   answer = c.answer.ensures;
-  exchanged = same-exchanged g.K.Kind.meaning (four c.args.sheets.now) (encounter_of c.args.e.now) c.args.a c.args.b c.args.passing;
-  in_run = λ calls h. probe-in-run g.K.Kind.meaning g.met.K.Kind.lawful calls (four c.args.sheets.now) h (encounter_of c.args.e.now) c.args.a c.args.b c.args.passing c.answer.result c.answer.ensures;
+  exchanged = same-exchanged g.K.Kind.meaning (four c.args.sheets.now) (encounter_of c.args.e.now) c.args.flights.a c.args.flights.b c.args.flights.passing;
+  in_run = λ calls h. probe-in-run g.K.Kind.meaning g.met.K.Kind.lawful calls (four c.args.sheets.now) h (encounter_of c.args.e.now) c.args.flights.a c.args.flights.b c.args.flights.passing c.answer.result c.answer.ensures;
 }

@@ -7,4 +7,4 @@ use Rattle.starts.proofs.count.count.Given as goal
 abbrev pub invariant-loop-i : goal.invariant-loop-i
 invariant-loop-i g l =
     let m = g.K.Kind.meaning in
-    (l.product ≤ 1048576) × (l.product * left m (seen l.view) l.view.quantities.now l.view.counts.quantities l.i ≡ count m (seen l.view))
+    (l.product ≤ 1048576) × (l.product * left m (seen l.view) (seen l.view).quantities l.i ≡ count m (seen l.view))

@@ -6,4 +6,4 @@ use Rattle.starts.proofs.count.starts_up_to.Given as goal
 abbrev pub invariant-loop-n : goal.invariant-loop-n
 invariant-loop-n g l =
     let m = g.K.Kind.meaning in
-    l.n + starts_of m (seen l.view) l.i l.at l.greatest ≡ starts_of m (seen l.view) l.i l.initial.at l.greatest
+    l.n + starts_of m (seen l.view) l.i l.at l.fn.q.greatest ≡ starts_of m (seen l.view) l.i l.initial.at l.fn.q.greatest

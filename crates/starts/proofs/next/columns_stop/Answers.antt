@@ -1,15 +1,18 @@
-use Rattle.tables.specs.Starts.{reading}
+use Rattle.std.proofs.Common.{ℕ, ◌-◌, None, take, refl, ◌∙◌, rules, tests}
+use Rattle.std.specs.List.{range_with_len}
+use Rattle.std.proofs.lemmas.Iterator.{YieldsList-from_range}
+use Rattle.std.proofs.lemmas.Iterator.Consumers.{fold_from_yields_List}
+use Rattle.kinds.specs.Meaning.{earlier}
+use Rattle.tables.specs.Starts.{earliest, reading}
 use Rattle.tables.specs.Storage.{column_of}
-use Rattle.lists.specs.Held.{seen}
-use Rattle.starts.proofs.Stopping.{later-here, later-end}
+use Rattle.starts.proofs.Stopping.{folded-columns}
 use Rattle.starts.proofs.next.columns_stop.Goals as goal
-
-pub loop-j-preserved : goal.loop-j-preserved
-loop-j-preserved g c =
-    later-here g.K.Kind.meaning c.args.after (λ k. reading c.args.quantity (seen c.args.view.now).rows (column_of c.args.view.now.entries.now c.args.view.now.counts.rows k)) c.args.to
-    c.loop-j.j c.loop-j.stop c.column_stop-here.result c.earlier_stop-stop.result c.loop-j-test.true c.column_stop-here.ensures c.earlier_stop-stop.ensures c.loop-j.invariant
 
 pub returns : goal.returns
 returns g c =
-    later-end g.K.Kind.meaning c.args.after (λ k. reading c.args.quantity (seen c.args.view.now).rows (column_of c.args.view.now.entries.now c.args.view.now.counts.rows k)) c.args.to
-    c.loop-j.j c.loop-j.stop c.loop-j-test.false c.loop-j.invariant
+    let m = g.K.Kind.meaning in
+    let v = c.args.view.now in
+    let f = λ (j : ℕ). reading c.args.quantity (take v.counts.rows v.rows.now) (column_of v.entries.now v.counts.rows j) in
+    fold_from_yields_List _ (λ s j. earlier m.rank s (earliest m (f j) c.args.after)) None c.fold.result c.fold.ensures.ran
+    (YieldsList-from_range c.args.from c.args.to (c.args.to - c.args.from) refl refl) (λ a x b q k. search (rules, tests))
+    ∙ folded-columns m c.args.after f (range_with_len c.args.from (c.args.to - c.args.from)) None

@@ -1,31 +1,33 @@
-use Rattle.std.proofs.Common.{◌-◌, ◌<◌, ◌≤◌, length, refl, arith}
+use Rattle.std.proofs.Common.{◌≡◌, length, rules, arith, ap, ◌∙◌}
+use Rattle.std.specs.List.{push}
+use Rattle.tables.specs.Starts.{turned}
 use Rattle.lists.specs.Held.{seen, shown}
-use Rattle.turning.proofs.Turns.{same-on, turned-start, turned-step, turned-rest}
+use Rattle.turning.specs.Turning.{places_of}
+use Rattle.turning.proofs.Turns.{same-on, turned-step, turned-rest}
 use Rattle.turning.proofs.odometer.turn.Goals as goal
 
-pub loop-i-init : goal.loop-i-init
-loop-i-init g c =
-    (turned-start g.K.Kind.meaning (seen c.args.view.now) c.args.view.now.quantities.now c.args.view.now.counts.quantities (shown c.args.at.now), record { a = refl; b = refl; pair = refl })
-
-pub returns-then-turn_quantity : goal.returns-then-turn_quantity
-returns-then-turn_quantity g c =
-    let long : c.args.view.now.counts.quantities ≤ length c.args.view.now.quantities.now = omega arith in
-    let some : 0 < c.loop-i.i = omega arith in
-    let few : c.loop-i.i ≤ c.args.view.now.counts.quantities = omega arith in
-    let fewer : c.loop-i.i - 1 ≤ c.args.view.now.counts.quantities = omega arith in
-    record {
-      after = turned-rest g.K.Kind.meaning (seen c.args.view.now) c.args.view.now.quantities.now c.args.view.now.counts.quantities (c.loop-i.i - 1) (shown c.args.at.now) (shown c.turn_quantity.new.at) long fewer
-          (turned-step g.K.Kind.meaning (seen c.args.view.now) c.args.view.now.quantities.now c.args.view.now.counts.quantities c.loop-i.i c.index-view-i.result (shown c.args.at.now) (shown c.loop-i.at) (shown c.turn_quantity.new.at) long some few
-          c.loop-i.invariant.0 c.turn_quantity.ensures.after c.if-turn_quantity.true);
-      lent = same-on c.loop-i.invariant.1 c.turn_quantity.ensures.lent;
-    }
+pub returns-then-turn_quantity-clause-after : goal.returns-then-turn_quantity-clause-after
+returns-then-turn_quantity-clause-after g c =
+    let m = g.K.Kind.meaning in
+    let s = seen c.args.view.now in
+    let ws = c.loop-i.i-iterator.iter.iter.rest.now in
+    let us = c.next.new.self.iter.iter.rest.now in
+    let q = c.in-Some.q.now in
+    let is : ws ≡ push us q = search rules in
+    let at : c.in-Some.i ≡ length us = search (rules, arith) in
+    let t = turned-step m s s.quantities ws us q c.loop-i.invariant.1 is (shown c.args.at.now) (shown c.loop-i.at) (shown c.turn_quantity.new.at) c.loop-i.invariant.2
+    (c.turn_quantity.ensures.after ∙ ap (λ i. turned m s (places_of i q q.scope) (shown c.loop-i.at)) at) c.if-turn_quantity.true in
+    turned-rest m s s.quantities us (shown c.args.at.now) (shown c.turn_quantity.new.at) t.0 t.1
 
 pub loop-i-preserved : goal.loop-i-preserved
 loop-i-preserved g c =
-    let long : c.args.view.now.counts.quantities ≤ length c.args.view.now.quantities.now = omega arith in
-    let some : 0 < c.loop-i.i = omega arith in
-    let few : c.loop-i.i ≤ c.args.view.now.counts.quantities = omega arith in (
-      turned-step g.K.Kind.meaning (seen c.args.view.now) c.args.view.now.quantities.now c.args.view.now.counts.quantities c.loop-i.i c.index-view-i.result (shown c.args.at.now) (shown c.loop-i.at) (shown c.turn_quantity.new.at) long some few
-          c.loop-i.invariant.0 c.turn_quantity.ensures.after c.if-turn_quantity.false,
-      same-on c.loop-i.invariant.1 c.turn_quantity.ensures.lent,
-    )
+    let m = g.K.Kind.meaning in
+    let s = seen c.args.view.now in
+    let ws = c.loop-i.i-iterator.iter.iter.rest.now in
+    let us = c.next.new.self.iter.iter.rest.now in
+    let q = c.in-Some.q.now in
+    let is : ws ≡ push us q = search rules in
+    let at : c.in-Some.i ≡ length us = search (rules, arith) in
+    let t = turned-step m s s.quantities ws us q c.loop-i.invariant.1 is (shown c.args.at.now) (shown c.loop-i.at) (shown c.turn_quantity.new.at) c.loop-i.invariant.2
+    (c.turn_quantity.ensures.after ∙ ap (λ i. turned m s (places_of i q q.scope) (shown c.loop-i.at)) at) c.if-turn_quantity.false in
+    (search rules, t.0, t.1, same-on c.loop-i.invariant.3 c.turn_quantity.ensures.lent)

@@ -6,5 +6,5 @@ use Rattle.writing.proofs.LinesOn.{texts}
 use Rattle.writing.proofs.sections.columns.Given as goal
 
 abbrev pub invariant-loop-j : goal.invariant-loop-j
-invariant-loop-j l =
-    Wrote l.initial.writer (texts (map (λ k. say_column k.result k.entries) (columns_from l.view.entries.now l.view.counts.rows 0 (take l.j l.view.results.now)))) l.writer
+invariant-loop-j g l =
+    Wrote l.initial.writer (texts (map (λ k. say_column k.result k.entries) (columns_from l.view.entries.now l.view.counts.rows 0 (take l.j l.result-items)))) l.writer

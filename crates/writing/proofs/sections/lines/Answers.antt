@@ -3,4 +3,4 @@ use Rattle.writing.proofs.LinesOn.{sections-on}
 use Rattle.writing.proofs.sections.lines.Goals as goal
 
 pub returns : goal.returns
-returns c = sections-on (seen c.args.view.now) c.quantities.ensures c.rows.ensures c.columns.ensures c.nevers.ensures c.default.ensures
+returns g c = sections-on (seen c.args.view.now) c.quantities.ensures c.rows.ensures c.columns.ensures c.nevers.ensures c.default.ensures

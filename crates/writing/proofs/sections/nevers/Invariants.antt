@@ -7,4 +7,4 @@ use Rattle.writing.proofs.LinesOn.{texts}
 use Rattle.writing.proofs.sections.nevers.Given as goal
 
 abbrev pub invariant-loop-j : goal.invariant-loop-j
-invariant-loop-j l = Wrote l.initial.writer (texts (map say_never (map (λ j. column_of l.view.entries.now l.view.counts.rows (16 + j)) (range_with_len 0 l.j)))) l.writer
+invariant-loop-j g l = Wrote l.initial.writer (texts (map say_never (map (λ j. column_of l.view.entries.now l.view.counts.rows (16 + j)) (range_with_len 0 l.j)))) l.writer

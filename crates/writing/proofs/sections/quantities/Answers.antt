@@ -1,11 +1,6 @@
-use Rattle.std.proofs.Common.{arith}
 use Rattle.text.specs.Texts.{say_quantity}
-use Rattle.writer.proofs.Wrote.{wrote_none}
 use Rattle.writing.proofs.LinesOn.{item_on}
 use Rattle.writing.proofs.sections.quantities.Goals as goal
 
-pub loop-i-init : goal.loop-i-init
-loop-i-init c = wrote_none c.args.writer.now
-
-pub loop-i-preserved : goal.loop-i-preserved
-loop-i-preserved c = item_on say_quantity c.args.view.now.quantities.now c.loop-i.i _ (omega arith) c.loop-i.invariant c.quantity.ensures
+pub loop-quantity-preserved : goal.loop-quantity-preserved
+loop-quantity-preserved g c = item_on say_quantity _ c.loop-quantity.quantity-index _ c.loop-quantity-test.true c.loop-quantity.invariant c.quantity.ensures

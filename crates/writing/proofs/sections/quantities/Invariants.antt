@@ -4,5 +4,5 @@ use Rattle.writer.specs.Writing.{Wrote}
 use Rattle.writing.proofs.LinesOn.{texts}
 use Rattle.writing.proofs.sections.quantities.Given as goal
 
-abbrev pub invariant-loop-i : goal.invariant-loop-i
-invariant-loop-i l = Wrote l.initial.writer (texts (map say_quantity (take l.i l.view.quantities.now))) l.writer
+abbrev pub invariant-loop-quantity : goal.invariant-loop-quantity
+invariant-loop-quantity g l = Wrote l.initial.writer (texts (map say_quantity (take l.quantity-index l.quantity-items))) l.writer

@@ -4,5 +4,5 @@ use Rattle.writer.specs.Writing.{Wrote}
 use Rattle.writing.proofs.LinesOn.{texts}
 use Rattle.writing.proofs.sections.rows.Given as goal
 
-abbrev pub invariant-loop-i : goal.invariant-loop-i
-invariant-loop-i l = Wrote l.initial.writer (texts (map say_row (take l.i l.view.rows.now))) l.writer
+abbrev pub invariant-loop-row : goal.invariant-loop-row
+invariant-loop-row g l = Wrote l.initial.writer (texts (map say_row (take l.row-index l.row-items))) l.writer

@@ -1,14 +1,11 @@
-use Rattle.std.proofs.Common.{refl, arith}
-use Rattle.text.proofs.Parts.{fields-more, length-field}
+use Rattle.std.proofs.Common.{◌∙◌}
+use Rattle.std.proofs.lemmas.List.{take_rest}
+use Rattle.lines.proofs.Steps.{field-at}
 use Rattle.lines.proofs.cursor.Fields.next_field.Goals as goal
 
-pub returns : goal.returns
-returns c =
-    let line = c.args.self.now.line.now in
-    let at = c.args.self.now.at in
-    let to = c.field_end-to.result in
-    record {
-      left = fields-more line at to (omega arith) c.field_end-to.ensures.0;
-      at = omega (arith, length-field line at to (omega arith) c.field_end-to.ensures.0);
-      line = refl;
-    }
+pub returns-clause-left : goal.returns-clause-left
+returns-clause-left c =
+    let s = c.args.self.now in
+    let h = c.in_ok-rest.ensures in
+    let l = h.lookup in
+    field-at s.line.now c.in_ok-rest.rest.now s.at c.until-end.result l.0.0 (l.0.2 ∙ take_rest s.line.now s.at) c.until-end.ensures.0

@@ -1,16 +1,13 @@
-use Rattle.std.proofs.Common.{◌&&◌, sym, refl, ◌∙◌, ap₂}
+use Rattle.std.proofs.Common.{◌≡◌, subst, sym, rules, tests}
 use Rattle.tables.specs.Acceptance.{acceptable}
-use Rattle.tables.specs.Storage.{contents_of}
+use Rattle.lists.specs.Held.{FirstAnswer, seen}
+use Rattle.lists.proofs.First.{first-answer}
 use Rattle.lists.proofs.lent.Lists.asked.Goals as goal
 
-pub returns-then-is_acceptable : goal.returns-then-is_acceptable
-returns-then-is_acceptable g c =
-    let h = c.in-Some.ensures in
-    let same = ap₂ (λ n l. acceptable g.K.Kind.meaning g.R.ResultKind.results (contents_of n l)) h.0 h.1 in
-    (h.0, h.1, ap₂ ◌&&◌ h.2 (sym same ∙ sym c.is_acceptable.ensures ∙ c.if-is_acceptable.true))
-
-pub returns-else-is_acceptable : goal.returns-else-is_acceptable
-returns-else-is_acceptable g c =
-    let h = c.in-Some.ensures in
-    let same = ap₂ (λ n l. acceptable g.K.Kind.meaning g.R.ResultKind.results (contents_of n l)) h.0 h.1 in
-    (refl, ap₂ ◌&&◌ h.2 (sym same ∙ sym c.is_acceptable.ensures ∙ c.if-is_acceptable.false))
+pub returns : goal.returns
+returns g c =
+    let m = g.K.Kind.meaning in
+    let rs = g.R.ResultKind.results in
+    subst (FirstAnswer m rs c.args.counts c.args.self.now) (sym c.ok_or.ensures.value)
+    (first-answer m rs c.args.counts c.args.self.now c.view.result c.filter.result c.view.ensures _ c.filter.ensures
+    (λ v b h. subst (λ v. b ≡ acceptable m rs (seen v)) h.2 (let k = h.1 in search (rules, tests))))

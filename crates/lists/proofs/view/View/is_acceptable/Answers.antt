@@ -1,20 +1,21 @@
-use Rattle.std.proofs.Common.{◌+◌, ◌≤◌, ◌&&◌, map, length, take, sym, ◌∙◌, ap₂, arith, length-take}
-use Rattle.std.specs.List.{range_with_len}
-use Rattle.std.proofs.lemmas.List.FromFn.{length-map-range_with_len}
-use Rattle.std.proofs.lemmas.Bool.{le-leb}
-use Rattle.tables.specs.Storage.{column_of, columns_from}
-use Rattle.lists.proofs.Left.{columns-length}
+use Rattle.std.proofs.Common.{◌≡◌, true, rules}
+use Rattle.tables.specs.Acceptance.{entries_lawful, range_lawful, row_lawful}
+use Rattle.tables.specs.Words.{all_of}
+use Rattle.lists.specs.Held.{seen}
+use Rattle.lists.proofs.First.{acceptable-by-parts, column_lawful}
 use Rattle.lists.proofs.view.View.is_acceptable.Goals as goal
+use Rattle.lists.proofs.view.View.is_acceptable.Goals.{then-ranges_are_lawful, else-ranges_are_lawful, then-rows_are_lawful, else-rows_are_lawful, then-columns_are_lawful, else-columns_are_lawful}
 
-pub returns : goal.returns
-returns g c =
+pub returns-then-nevers_are_lawful : goal.returns-then-nevers_are_lawful
+returns-then-nevers_are_lawful g c =
+    let m = g.K.Kind.meaning in
     let v = c.args.self.now in
-    let es = v.entries.now in
-    let qs : length (take v.counts.quantities v.quantities.now) ≤ 16 = omega (arith, length-take v.counts.quantities v.quantities.now) in
-    let ws : length (take v.counts.rows v.rows.now) ≤ 16 = omega (arith, length-take v.counts.rows v.rows.now) in
-    let ks : length (columns_from es v.counts.rows 0 (take v.counts.columns v.results.now)) ≤ 16 = omega (arith, columns-length es v.counts.rows 0 (take v.counts.columns v.results.now), length-take v.counts.columns v.results.now) in
-    let ns : length (map (λ j. column_of es v.counts.rows (16 + j)) (range_with_len 0 v.counts.nevers)) ≤ 8 = omega (arith, length-map-range_with_len (λ j. column_of es v.counts.rows (16 + j)) 0 v.counts.nevers) in
-    sym (ap₂ ◌&&◌ (ap₂ ◌&&◌ (le-leb _ _ qs) (sym c.ranges_are_lawful.ensures ∙ c.if-not-ranges_are_lawful.false))
-    (ap₂ ◌&&◌ (ap₂ ◌&&◌ (le-leb _ _ ws) (sym c.rows_are_lawful.ensures ∙ c.if-not-rows_are_lawful.false))
-    (ap₂ ◌&&◌ (ap₂ ◌&&◌ (le-leb _ _ ks) (sym c.columns_are_lawful.ensures ∙ c.if-not-columns_are_lawful.false))
-    (ap₂ ◌&&◌ (ap₂ ◌&&◌ (le-leb _ _ ns) (sym c.nevers_are_lawful.ensures ∙ c.if-not-nevers_are_lawful.false)) (sym c.default_is_lawful.ensures)))))
+    let qs = (seen v).quantities in
+    let ws = (seen v).rows in
+    let ns : (c.if-rows_are_lawful.value ≡ true) × (all_of (entries_lawful m qs ws) (seen v).nevers ≡ true)
+    = elim c.if-columns_are_lawful.branch [ then-columns_are_lawful w ↦ search rules | else-columns_are_lawful w ↦ search rules ] in
+    let ks : (c.if-ranges_are_lawful.value ≡ true) × (all_of (column_lawful m g.R.ResultKind.results qs ws) (seen v).columns ≡ true)
+    = elim c.if-rows_are_lawful.branch [ then-rows_are_lawful w ↦ search rules | else-rows_are_lawful w ↦ search rules ] in
+    let rs : (all_of (range_lawful m) qs ≡ true) × (all_of (row_lawful m qs) ws ≡ true)
+    = elim c.if-ranges_are_lawful.branch [ then-ranges_are_lawful w ↦ search rules | else-ranges_are_lawful w ↦ search rules ] in
+    acceptable-by-parts m g.R.ResultKind.results v _ rs.0 rs.1 ks.1 ns.1 c.default_is_lawful.ensures

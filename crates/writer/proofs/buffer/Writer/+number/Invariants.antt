@@ -1,4 +1,4 @@
 use Rattle.writer.proofs.buffer.Writer.+number.Given as goal
 
 abbrev pub decreases-number : goal.decreases-number
-decreases-number l = l.n
+decreases-number g l = l.n

@@ -2,5 +2,5 @@ use Rattle.writer.proofs.Wrote.{wrote-more}
 use Rattle.writer.proofs.buffer.Writer.never.Goals as goal
 
 pub returns : goal.returns
-returns c =
-    wrote-more (wrote-more c.first.ensures c.entries.ensures) c.byte.ensures
+returns g c =
+    wrote-more (wrote-more c.spelled.ensures c.entries.ensures) c.byte.ensures
