@@ -23,7 +23,7 @@ use sheet::states::Draft;
 use text::types::{Placed, Word};
 
 // The lists of a page's sheet.
-// They go beside a draft: a struct of both would have to say in each contract which two it borrows.
+// They go beside a draft and a line's fields: each contract would have to say which of them a struct borrows.
 pub type PageLists<'a> = Lists<'a, House, Figure>;
 
 // Fields that are not right in form or number, by the byte to tell.

@@ -13,7 +13,7 @@ pub struct Fix {
 }
 
 // Do the flights go the same way, or one against the other?
-#[derive(Clone, Copy, Debug, PartialEq, Eq)]
+#[derive(Clone, Copy)]
 pub enum Direction {
     Same,
     Opposite,

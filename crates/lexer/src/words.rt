@@ -1,19 +1,11 @@
 // The words of a page, and the values that a kind's word calls for.
 ghost use Rattle.std.specs.Prelude.{◌≡◌};
-ghost use Rattle.std.specs.Str.{bytes_eq};
 ghost use Rattle.text.specs.Words.{mode as mode_of, kind as kind_of, value as value_of, first_word, allowed as allowed_of};
 
 use crate::numbers::{measure, number, time};
 use house::{Value, measure_value, minute_value, name_value};
 use items::Mode;
 use text::types::{KindWord, Section, Word};
-
-// Whether a field is a word, compared byte by byte.
-pub fn is(field: &[u8], word: &[u8]) -> bool
-    ensures { result ≡ bytes_eq field.now word.now }
-{
-    field == word
-}
 
 // The mode that a field names.
 pub fn mode(field: &[u8]) -> Option<Mode>

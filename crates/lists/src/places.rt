@@ -1,13 +1,5 @@
-// Reading and writing at a place of a list that may be too short for it.
+// Writing at a place of a list that may be too short for it.
 ghost use Rattle.std.specs.Prelude.{◌≡◌, slice_set};
-ghost use Rattle.std.specs.List.{slice_get};
-
-// The item at a place, if there is one.
-pub fn nth<T: Copy>(items: &[T], i: usize) -> Option<T>
-    ensures { result ≡ slice_get items.now i }
-{
-    items.get(i).copied()
-}
 
 // Puts an item at a place, if there is one.
 pub fn put<T: Copy>(items: &mut [T], i: usize, item: T)

@@ -1,5 +1,6 @@
 // A sheet to look at.
 ghost use Rattle.std.specs.Prelude.{◌≡◌, ◌*◌, ◌<◌, ◌≤◌, length};
+ghost use Rattle.tables.specs.Storage.{Bounded};
 
 use items::{Counts, Entry, Quantity, Row};
 use kinds::Kind;
@@ -13,10 +14,7 @@ pub struct View<'a, K: Kind, R> {
     pub rows: &'a [Row],
     pub entries: &'a [Entry<K::Cell>],
     pub results: &'a [R],
-    ghost few_quantities: { counts.quantities ≤ 16 },
-    ghost few_rows: { counts.rows ≤ 16 },
-    ghost few_columns: { counts.columns ≤ 16 },
-    ghost few_nevers: { counts.nevers ≤ 8 },
+    ghost few: { Bounded counts },
     ghost all_quantities: { length quantities.now ≡ 16 },
     ghost all_rows: { length rows.now ≡ 16 },
     ghost all_entries: { length entries.now ≡ 384 },

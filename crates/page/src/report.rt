@@ -97,8 +97,8 @@ fn issue(
 {
     let quantities = in_use(lists.quantities, draft.counts().quantities);
     match draft.issue(lists, at) {
-        Ok(accepted) => issued(heap, accepted.1),
-        Err(back) => refused(heap, back.1, quantities, at),
+        Ok((_, count)) => issued(heap, count),
+        Err((_, fault)) => refused(heap, fault, quantities, at),
     }
 }
 

@@ -111,7 +111,7 @@ fn opposite(name: &'static str, close: bool, t: i32) -> Case {
     Case {
         name,
         a: slow(350, 0, 36_000),
-        b: slow(350, 0, 36_000),
+        b: slow(360, 100, 36_000),
         passing: Passing {
             direction: Direction::Opposite,
             time: 36_000,

@@ -18,10 +18,10 @@ use sheet::states::{Draft, Issued};
 fn issue<R: ResultKind>(draft: Draft, lists: &Lists<'_, House, R>) -> anyhow::Result<Issued> {
     let mut encounter = EncounterMemory::new(measure_value(0));
     let mut at = encounter.lend();
-    match draft.issue(lists, &mut at) {
-        Ok((issued, _)) => Ok(issued),
-        Err(_) => Err(anyhow!("a sheet is not issued")),
-    }
+    let (issued, _) = draft
+        .issue(lists, &mut at)
+        .map_err(|_| anyhow!("a sheet is not issued"))?;
+    Ok(issued)
 }
 
 // Reads a page and issues its sheet.

@@ -1,4 +1,6 @@
 // Replaying a script from open on.
+//
+// Lists and what shows an encounter are two parameters, as the calls of a sheet take them.
 ghost use Rattle.std.specs.Prelude.{◌≡◌, ◌≤◌, true, length, slice_set};
 ghost use Rattle.lists.specs.Held.{SameLists, SameShowing, lists_of, shown};
 ghost use Rattle.replay.specs.Replays.{Replayed, ReplayedTo};

@@ -75,8 +75,10 @@ fn play_levels(rt: &HostRuntime) -> io::Result<()> {
     let at = &mut encounter.lend();
     let script = levels::script(rt.alloc())?;
     println!(rt; "levels")?;
-    play(rt, &script, lists, at, &mut [Answer::NotAllowed; 58])?;
-    play(rt, &script, lists, at, &mut [Answer::NotAllowed; 57])
+    let mut answers = vec![in rt.alloc(); Answer::NotAllowed; script.len()]?;
+    play(rt, &script, lists, at, &mut answers)?;
+    let mut few = vec![in rt.alloc(); Answer::NotAllowed; script.len().saturating_sub(1)]?;
+    play(rt, &script, lists, at, &mut few)
 }
 
 // A script on lists of which one is not of right length.
@@ -100,7 +102,7 @@ fn play_short(rt: &HostRuntime) -> io::Result<()> {
     play(rt, &script, &mut lists, at, &mut [Answer::NotAllowed; 20])
 }
 
-// The script over names.
+// The script over names, with two places more for answers than calls.
 fn play_names(rt: &HostRuntime) -> io::Result<()> {
     let mut memory: SheetMemory<Names, Period> = SheetMemory::new(0, Period { from: 0, to: 0 });
     let mut encounter = EncounterMemory::new(0);
@@ -108,7 +110,8 @@ fn play_names(rt: &HostRuntime) -> io::Result<()> {
     let at = &mut encounter.lend();
     let script = periods::script(rt.alloc())?;
     println!(rt; "names")?;
-    play(rt, &script, lists, at, &mut [Answer::NotAllowed; 48])
+    let mut answers = vec![in rt.alloc(); Answer::NotAllowed; script.len().saturating_add(2)]?;
+    play(rt, &script, lists, at, &mut answers)
 }
 
 fn main(rt: HostRuntime) -> io::Result<()> {

@@ -39,10 +39,7 @@ mod tests {
     // The byte at which a row's line is refused, or 0.
     fn row_refused(line: &[u8]) -> usize {
         let mut fields = after_word(line);
-        match row_line(&mut fields) {
-            Ok(_) => 0,
-            Err(byte) => byte,
-        }
+        row_line(&mut fields).err().unwrap_or(0)
     }
 
     // Whether a row's line is written as it was read.
@@ -61,10 +58,9 @@ mod tests {
     // The byte at which the line of a column of five entries is refused, or 0.
     fn column_refused(line: &[u8]) -> usize {
         let mut fields = after_word(line);
-        match column_line(&mut fields, 5, &mut no_places()) {
-            Ok(_) => 0,
-            Err(byte) => byte,
-        }
+        column_line(&mut fields, 5, &mut no_places())
+            .err()
+            .unwrap_or(0)
     }
 
     // Whether the line of a column of five entries is written as it was read.
@@ -109,9 +105,10 @@ mod tests {
 
 #[cfg(test)]
 mod pages_again {
-    use house::measure_value;
+    use house::{House, measure_value};
+    use lists::lent::Lists;
     use memory::sheet::SheetMemory;
-    use page_faults::{PageRefusal, WriteFault};
+    use page_faults::{Layer, PageRefusal, WriteFault};
     use reading::reading::read;
     use results::figure::Figure;
     use writing::writing::write;
@@ -132,16 +129,6 @@ mod pages_again {
     impl From<WriteFault> for Fault {
         fn from(fault: WriteFault) -> Fault {
             Fault::Write(fault)
-        }
-    }
-
-    impl Fault {
-        // The number by which users know the refusal.
-        fn number(self) -> u8 {
-            match self {
-                Fault::Read(refusal) => refusal.fault.number(),
-                Fault::Write(fault) => fault.number(),
-            }
         }
     }
 
@@ -170,9 +157,72 @@ mod pages_again {
 
     // Is the page refused for a buffer of 7s that is one byte too short, which is left as it was?
     fn is_refused(page: &[u8], out: &mut [u8]) -> bool {
-        rewrite(page, out).is_err_and(|fault| fault.number() == 28)
+        matches!(rewrite(page, out), Err(Fault::Write(WriteFault::NoRoom)))
             && out.len() < page.len()
             && all_are(out, 7)
+    }
+
+    // What a refusal in reading tells.
+    #[derive(Clone, Copy, PartialEq, Eq, Debug)]
+    struct Told {
+        number: u8,
+        layer: &'static str,
+        line: usize,
+        byte: usize,
+    }
+
+    fn what_is_told(refusal: PageRefusal) -> Told {
+        let layer = match refusal.fault.layer() {
+            Layer::OfPage => "page",
+            Layer::OfKind => "kind",
+            Layer::OfSheet => "sheet",
+        };
+        Told {
+            number: refusal.fault.number(),
+            layer,
+            line: refusal.line,
+            byte: refusal.byte,
+        }
+    }
+
+    // What is told of a page that is refused.
+    fn refused(page: &[u8]) -> Option<Told> {
+        let mut memory = SheetMemory::new(measure_value(0), Figure { value: 0 });
+        read(page, &mut memory.lend())
+            .err()
+            .map(|refusal| what_is_told(refusal))
+    }
+
+    // The same, where the list of quantities is too short.
+    fn refused_by_short_lists(page: &[u8]) -> Option<Told> {
+        let mut memory: SheetMemory<House, Figure> = SheetMemory::new(
+            measure_value(0),
+            Figure { value: 0 },
+        );
+        let Lists {
+            quantities,
+            rows,
+            entries,
+            results,
+        } = memory.lend();
+        let mut lists: Lists<'_, House, Figure> = Lists {
+            quantities: &mut quantities[..15],
+            rows,
+            entries,
+            results,
+        };
+        read(page, &mut lists)
+            .err()
+            .map(|refusal| what_is_told(refusal))
+    }
+
+    fn tells(number: u8, layer: &'static str, line: usize, byte: usize) -> Option<Told> {
+        Some(Told {
+            number,
+            layer,
+            line,
+            byte,
+        })
     }
 
     const EMPTY: &[u8] = b"end\n";
@@ -189,6 +239,31 @@ mod pages_again {
         assert!(rt; comes_back(b"default 0\nend\n"));
         assert!(rt; comes_back(VERTICAL));
         assert!(rt; comes_back(EVERY_FORM));
+    }
+
+    #[test]
+    fn refusals_with_their_layer(rt: HostRuntime) {
+        assert_eq!(rt; refused(b""), tells(25, "page", 1, 1));
+        assert_eq!(rt; refused(b"row 0\nend\n"), tells(27, "page", 1, 1));
+        assert_eq!(rt;
+            refused(b"flight measure 9 0\nend\n"),
+            tells(3, "kind", 1, 16)
+        );
+        assert_eq!(rt;
+            refused(b"flight names 0 3\nrow 0 both\nnever {}\nend\n"),
+            tells(11, "kind", 3, 7)
+        );
+        assert_eq!(rt; refused(b"row 0 A\nend\n"), tells(5, "sheet", 1, 5));
+        assert_eq!(rt; refused(EMPTY), None);
+    }
+
+    #[test]
+    fn short_lists_are_refused_first(rt: HostRuntime) {
+        assert_eq!(rt; refused_by_short_lists(EMPTY), tells(1, "sheet", 1, 1));
+        assert_eq!(rt;
+            refused_by_short_lists(&[10; 65537]),
+            tells(1, "sheet", 1, 1)
+        );
     }
 
     #[test]

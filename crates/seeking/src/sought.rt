@@ -1,4 +1,4 @@
-// What issue seeks among the encounters of a sheet.
+// What issue seeks among the encounters of a sheet. Each has a name, so that its contract says what.
 ghost use Rattle.std.specs.Prelude.{◌≡◌};
 ghost use Rattle.lists.specs.Held.{encounter_of, seen};
 ghost use Rattle.outcomes.specs.Meant.{outcome_of};

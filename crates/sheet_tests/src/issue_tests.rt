@@ -45,10 +45,10 @@ fn issue(draft: Draft, lists: &Lists<'_, Names, Figure>, length: usize) -> [u32;
         b: &mut b[0..end],
         pair: &mut pair[0..end],
     };
-    let number = match draft.issue(lists, &mut at) {
-        Ok(_) => 0,
-        Err((_, fault)) => fault.number(),
-    };
+    let number = draft
+        .issue(lists, &mut at)
+        .err()
+        .map_or(0, |(_, fault)| fault.number());
     [u32::from(number), a[0], b[0], a[1], pair[0]]
 }
 

@@ -2,7 +2,7 @@
 use Rattle.std.proofs.Common.{◌≡◌, ℕ, suc, true, List, [], ◌∷◌, map, Some, None, unwrap_or, sym, refl, ap, ◌∙◌, subst, inl, inr, zero-add, arith}
 use Rattle.std.specs.List.{slice_get, AllByRecursion}
 use Rattle.std.proofs.ByRecursion.{All-append, All-map, All-weaker}
-use Rattle.std.proofs.lemmas.Bool.{cond_both, cond-true}
+use Rattle.std.proofs.lemmas.Bool.{cond_both, cond-false, cond-true}
 use Rattle.std.proofs.lemmas.Bool.Decides.{nat_tests}
 use Rattle.kinds.specs.Meaning.{Meaning}
 use Rattle.faults.specs.declared.LookupFault.TheVariants.{OutOfRange, Barred as NotPossible}
@@ -86,6 +86,7 @@ module _ {V C R : Type 0} (m : Meaning V C) (r : Results R) (c : Contents V C R)
   looked-up-rightly e = record {
     fits = outcome_fits m r c e;
     tells = look-tells e;
+    short = λ h. cond-false (whole e) _ short_for h;
     in_range = look_in e;
     settled = λ w h f. elim (f.settled e h) [ inl b ↦ inl (look_in e w h ∙ ap by_outcome b) | inr a ↦ inr (a.0, look_in e w h ∙ ap by_outcome a.1) ];
     still_barred = λ f q.

@@ -27,6 +27,7 @@ use Rattle.tables.proofs.Looking.{looked-up-rightly}
 use Rattle.tables.proofs.Storing.{no-refusal, held-rightly}
 use Rattle.tables.proofs.Testing.{in_order_lem}
 use Rattle.tables.proofs.Answering.{answered-for}
+use Rattle.tables.proofs.Editing.{edited-rightly}
 
 module _ {X : Type 0} (n : ℕ) (P : X → Type 0) where
   up-to-push : (xs : List X) (x : X) → ltb (length xs) n ≡ true → P x → UpTo n P xs → UpTo n P (xs ++ (x ∷ []))
@@ -205,6 +206,7 @@ module _ {V C R : Type 0} (m : Meaning V C) (r : Results R) where
           first_question = first;
           answers = λ l s. let k = kept_after m r (opened_on l) ks in answered-for m r k.counts k.lists c (first l s) (held-rightly m r ks l s).contents;
           onward = run-push opened ks;
+          editing = edited-rightly m r c;
           issuing = λ lent. issued-rightly m law r eq c h.0 lent;
           looking = looked-up-rightly m r c;
           within = λ e. (subst (λ s. Passed s c) e h.1).0;

@@ -56,6 +56,8 @@ module _ {V C R : Type 0} (m : Meaning V C) (r : Results R) (c : Contents V C R)
   pub record LookedUpRightly : Type 0 where
     pub fits : Fits (outcome m r c e)
     pub tells : Tells (look_up m r c e)
+    -- that a list is too short is told first
+    pub short : whole e ≡ false → look_up m r c e ≡ short_for
     -- in range it tells the outcome
     pub in_range : whole e ≡ true → InRange m c e → look_up m r c e ≡ by_outcome (outcome m r c e)
     -- in a sheet without fault there is no gap and no clash, and the exchanged flights get the same answer

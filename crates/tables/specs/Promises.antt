@@ -10,6 +10,7 @@ use Rattle.tables.specs.Issues.{limit}
 use Rattle.tables.specs.Calls.{Call, made, after, draft, issued, Edit, edited}
 use Rattle.tables.specs.Storage.{Lists, Bounded, RightLengths, contents_of, counts_after, lists_after, opened_on, kept_after, in_order}
 use Rattle.tables.specs.Answers.{AnsweredFor}
+use Rattle.tables.specs.Edits.{EditedRightly}
 use Rattle.tables.specs.Faultless.{Faultless}
 use Rattle.tables.specs.Issued.{IssuedRightly}
 use Rattle.tables.specs.LookedUp.{LookedUpRightly}
@@ -42,6 +43,8 @@ pub record EveryRun {V C R : Type 0} (m : Meaning V C) (r : Results R) (calls : 
   pub answers : (l : Lists V C R) → RightLengths l → AnsweredFor m r (kept_after m r (opened_on l) calls).counts (kept_after m r (opened_on l) calls).lists (made m r calls).contents
   -- one more call does to the sheet what it is said to do
   pub onward : (k : Call V C R) → made m r (calls ++ (k ∷ [])) ≡ after m r k (made m r calls)
+  -- an edit changes its item and nothing else
+  pub editing : (k : Edit V C R) → EditedRightly m r k (made m r calls).contents
   pub issuing : (lent : Encounter V) → IssuedRightly m r (made m r calls).contents lent
   pub looking : (e : Encounter V) → LookedUpRightly m r (made m r calls).contents e
   pub within : (made m r calls).status ≡ issued → count m (made m r calls).contents ≤ limit

@@ -4,7 +4,7 @@ use faults::SheetFault;
 use fixes::fix::{Direction, Fix, Flights, Passing};
 use items::Side;
 use lists::lent::{Encounter, Showing};
-use probe::fault::Lettered;
+use probe::fault::{Lettered, ProbeFault};
 use probe::minima::Sheets;
 use probe::probing::probe;
 use results::figure::Figure;
@@ -105,7 +105,15 @@ fn print_verdict(
             let separated = verdict.is_separated();
             println!(rt; "  margins {vertical} {lateral} {longitudinal}, separated: {separated}")?;
         }
-        Err(fault) => println!(rt; "  probe refused {}", fault.number())?,
+        Err(fault) => {
+            let number = fault.number();
+            match fault {
+                ProbeFault::Limits => println!(rt; "  probe refused {number}")?,
+                ProbeFault::Sheet(letter, _) => println!(rt;
+                    "  probe refused {number} by {letter}"
+                )?,
+            }
+        }
     }
     Ok(())
 }

@@ -44,6 +44,7 @@ wrote_none {live} w = record {
   fits = λ at e h. (e ∙ ap (λ k. Some k) (omega arith), sym (ap (λ o. cond (eqb live 0) (buffer w) o) (put-none at (buffer w)) ∙ cond_same (eqb live 0) (buffer w)));
   over = λ at e h k. absurd (omega arith);
   stays = λ h. h;
+  kept = λ h. refl;
   size = refl;
   lender = refl;
   dry = λ h. refl;
@@ -66,6 +67,7 @@ wrote-more {live} {w} {v} {u} {xs} {ys} a b =
           ⊎_elim (λ (o : length (buffer w) < at + length xs). b.stays (a.over at e h o))
           (λ (o : at + length xs ≤ length (buffer w)). b.over (at + length xs) (a.fits at e o).0 (omega arith) (omega arith)) (cases_lt (length (buffer w)) (at + length xs));
       stays = λ h. b.stays (a.stays h);
+      kept = λ h. b.kept (a.stays h) ∙ a.kept h;
       size = b.size ∙ a.size;
       lender = b.lender ∙ a.lender;
       dry = λ h. b.dry h ∙ a.dry h;

@@ -11,11 +11,13 @@ abbrev pub buffer : {live : ℕ} → Writer live → List ℕ
 buffer w = w.out.now
 
 -- a writer is live at 1, and only counts at 0. Where the bytes fit, they are written, or only counted;
--- where they do not, no place is left. One that only counts leaves the buffer as it was
+-- where they do not, no place is left, and a writer without a place leaves the buffer as it was. So does one that
+-- only counts
 pub record Wrote {live : ℕ} (w : Writer live) (bs : List ℕ) (v : Writer live) : Type 0 where
   pub fits : (at : ℕ) → w.at ≡ Some at → at + length bs ≤ length (buffer w) → (v.at ≡ Some (at + length bs)) × (buffer v ≡ cond (live == 0) (buffer w) (put_at at bs (buffer w)))
   pub over : (at : ℕ) → w.at ≡ Some at → at ≤ length (buffer w) → length (buffer w) < at + length bs → v.at ≡ None
   pub stays : w.at ≡ None → v.at ≡ None
+  pub kept : w.at ≡ None → buffer v ≡ buffer w
   pub size : length (buffer v) ≡ length (buffer w)
   pub lender : v.out.ghost_name ≡ w.out.ghost_name
   pub dry : live ≡ 0 → buffer v ≡ buffer w

@@ -1,6 +1,6 @@
 // The lines of a sheet's page, section by section.
 //
-// What is written and where to are two parameters: each contract speaks of the writer alone.
+// What is read and what is written are two parameters: a struct of both would be made for each of the two walks.
 ghost use Rattle.std.specs.Prelude.{◌≡◌, ◌+◌, ◌<◌, map, pos, slice_index_or};
 ghost use Rattle.lists.specs.Held.{seen};
 ghost use Rattle.pages.specs.Writes.{default_lines, lines_of, text_of};
