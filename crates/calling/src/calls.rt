@@ -78,7 +78,7 @@ fn add(
 }
 
 // No entry at all, to be written over.
-// A buffer beside its count of rows, since nothing is on the heap.
+// An array beside its count of rows, since nothing is on the heap.
 fn blank() -> [Placed; 16]
     ensures { length result ≡ 16 }
 {

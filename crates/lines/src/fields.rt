@@ -68,7 +68,8 @@ impl<'a> Fields<'a> {
         read(field).ok_or(byte)
     }
 
-    // The next field, which is to be a result, or the byte to tell.
+    // The next field, which is to be a result, or the byte to tell. Its last two clauses are those of
+    // `next_as`: of what is left, each reader of a field says the same, and no type holds before and after.
     pub fn result(&mut self) -> Result<Figure, usize>
         ensures value { result ≡ result_of (byte_of self.old) (left self.old) }
         ensures left { left self.new ≡ rest (left self.old) }
@@ -88,7 +89,8 @@ impl<'a> Fields<'a> {
         Ok(Placed { entry, byte })
     }
 
-    // No field is to be left; a surplus one is wrong.
+    // No field is to be left; a surplus one is wrong. An `if`, since `then_some(()).ok_or(..)` would
+    // build an answer to throw it away.
     pub fn done(&self) -> Result<(), usize>
         ensures { result ≡ none tt (byte_of self.now) (left self.now) }
     {

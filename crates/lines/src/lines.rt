@@ -48,7 +48,8 @@ pub fn row_line(fields: &mut Fields<'_>) -> Result<RowLine, usize>
     })
 }
 
-// An entry for each of some rows, at most 16, put at the front of a list of places.
+// An entry for each of some rows, at most 16, put at the front of a list of places. An array beside a
+// count: nothing is on the heap but the program's answer.
 pub fn entries(fields: &mut Fields<'_>, count: usize, out: &mut [Placed; 16]) -> Result<(), usize>
     ensures value { result ≡ formed (entries_of count (byte fields.old) (left fields.old)) }
     ensures kept { Kept (entries_of count (byte fields.old) (left fields.old)) out.new }
@@ -62,7 +63,7 @@ pub fn entries(fields: &mut Fields<'_>, count: usize, out: &mut [Placed; 16]) ->
     fields.done()
 }
 
-// A column: a result, and an entry for each of some rows.
+// A column: a result, and an entry for each of some rows, put at the front of an array as by `entries`.
 pub fn column_line(
     fields: &mut Fields<'_>,
     rows: usize,

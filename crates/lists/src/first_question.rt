@@ -108,7 +108,8 @@ impl<'a, K: Kind, R: ResultKind> View<'a, K, R> {
             .all(|row| self.row_is_lawful(*row))
     }
 
-    // Are the entries of a column lawful, in the rows in use? Never n is column 16 + n.
+    // Are the entries of a column lawful, in the rows in use? Never n is column 16 + n. All its callers
+    // ask below 24, and `View::column` takes every number: a type for such numbers would say it twice.
     fn column_is_lawful(&self, column: usize) -> bool
         requires { column < 24 }
         ensures { result ≡ entries_lawful K.Kind.meaning (seen self.now).quantities (seen self.now).rows (column_of self.now.entries.now self.now.counts.rows column) }
@@ -161,7 +162,8 @@ impl<'a, K: Kind, R: ResultKind> Lists<'a, K, R> {
             && self.results.len() == 17
     }
 
-    // A view of lists of right length, with counts that are within bounds.
+    // A view of lists of right length, with counts that are within bounds. `then` would take the view
+    // into a closure and say no less.
     fn view(&self, counts: Counts) -> Option<View<'_, K, R>>
         requires { Bounded counts }
         ensures { Looked counts self.now result }

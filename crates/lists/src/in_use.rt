@@ -1,4 +1,6 @@
 // The parts of a sheet's lists that are in use.
+//
+// A view and a number are two parameters: what the two make is the column, or the item.
 ghost use Rattle.std.specs.Prelude.{◌≡◌, length, min, take, zip};
 ghost use Rattle.lists.specs.Held.{seen};
 ghost use Rattle.lists.specs.Rows.{rows_left};
@@ -62,7 +64,7 @@ impl<'a, K: Kind, R> View<'a, K, R> {
 }
 
 impl<'a, K: Kind, R: Copy> View<'a, K, R> {
-    // The default result, if there is one.
+    // The default result, if there is one. `then` would take the lists into a closure and say no less.
     pub fn default_result(&self) -> Option<R>
         ensures { result ≡ (seen self.now).default }
     {

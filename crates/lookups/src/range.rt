@@ -21,6 +21,7 @@ fn is_within<K: Kind>(quantity: Quantity<K::Value>, value: Option<K::Value>) -> 
 
 // Asks the value of a quantity in one of the lists.
 // `side` and `quantity` stay two parameters: `value` and `OutOfRange` name the two, so a pair would be taken apart.
+// An `if`, since `then_some(()).ok_or(..)` would build an answer to throw it away.
 fn ask<K: Kind>(
     q: Quantity<K::Value>,
     side: Side,
@@ -36,7 +37,8 @@ fn ask<K: Kind>(
     }
 }
 
-// Asks the values of a quantity, A's before B's.
+// Asks the values of a quantity, A's before B's. Five functions match a scope, and each does another
+// thing with it: a list of sides to go through would hide that the order is the rule.
 fn ask_flights<K: Kind>(
     q: Quantity<K::Value>,
     quantity: usize,

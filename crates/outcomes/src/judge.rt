@@ -1,4 +1,6 @@
 // The outcome of an encounter.
+//
+// A view and a column are two parameters: `View::column` is what the two make, and lasts for one use.
 ghost use Rattle.std.specs.Prelude.{◌≡◌, ◌<◌, not, ◌&&◌, [], slice_index_or};
 ghost use Rattle.lists.specs.Held.{encounter_of, seen};
 ghost use Rattle.outcomes.specs.Meant.{met_from, outcome_of};
@@ -12,7 +14,8 @@ use lists::lent::Encounter;
 use lists::view::View;
 use results::ResultKind;
 
-// Do all entries of a column hold? Never n is column 16 + n.
+// Do all entries of a column hold? Never n is column 16 + n. All its callers ask below 24, and
+// `View::column` takes every number: a type for such numbers would say it twice.
 fn is_met<K: Kind, R: ResultKind>(
     view: &View<'_, K, R>,
     column: usize,

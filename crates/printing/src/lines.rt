@@ -52,7 +52,8 @@ fn pair_line(heap: Global, i: usize, e: &Encounter<'_, Value>) -> Result<String,
     Ok(format!(in heap; "{i}{pair}\n")?)
 }
 
-// The line of a quantity.
+// The line of a quantity. A `match` on the scope, since each function that has one does another thing
+// with it.
 fn quantity_line(
     heap: Global,
     i: usize,

@@ -27,7 +27,8 @@ pub fn value_text(heap: Global, value: Value) -> Result<String, AllocError>
     }
 }
 
-// A value after a space, if there is one.
+// A value after a space, if there is one. A `match`, since a closure under `map_or` that takes memory
+// could not fail where it does.
 pub fn value_shown(heap: Global, value: Option<Value>) -> Result<String, AllocError>
     ensures { IfOk result (λ s. string_bytes s ≡ value_shown value) }
 {

@@ -30,8 +30,8 @@ fn holds(yes: bool) -> Value {
 }
 
 impl Flight {
-    // Its values, by quantity. What is not outside has part of its route inside, and meets the
-    // minima if it is not supersonic.
+    // Its values, by quantity: 16, as a look-up takes them. What is not outside has part of its route
+    // inside, and meets the minima if it is not supersonic.
     pub fn values(self) -> [Value; 16] {
         let mut values = [measure_value(0); 16];
         values[0] = measure_value(self.fix.level);
@@ -46,7 +46,7 @@ impl Flight {
 }
 
 impl Case {
-    // The values of the pair, by quantity.
+    // The values of the pair, by quantity: 16, as a look-up takes them.
     pub fn values(self) -> [Value; 16] {
         let mut values = [measure_value(0); 16];
         values[..4].fill(holds(self.close));
@@ -121,7 +121,7 @@ fn opposite(name: &'static str, close: bool, t: i32) -> Case {
     }
 }
 
-// The encounters that are probed.
+// The encounters that are probed. A list of so many, and no more is ever added: an array and no `Vec`.
 pub fn cases() -> [Case; 16] {
     [
         same(

@@ -10,6 +10,7 @@ use std::alloc::{AllocError, Global};
 
 type LevelCall = Call<'static, i32, Band, Figure>;
 
+// The lists of an encounter have 16 values, so these are arrays of as many.
 // Encounters of two low flights, of a high pair, of a flight too high for most, of one out of
 // range, and one whose first list is too short.
 const LOW: Encounter<'static, i32> = Encounter {

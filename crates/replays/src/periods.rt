@@ -10,7 +10,8 @@ use std::alloc::{AllocError, Global};
 
 type NameCall = Call<'static, u32, NameSet, Period>;
 
-// Encounters of flights without a name, and of one flight with the name 1 or 2.
+// Encounters of flights without a name, and of one flight with the name 1 or 2. The lists of an
+// encounter have 16 values, so these are arrays of as many.
 const NEITHER: Encounter<'static, u32> = Encounter {
     a: &[0; 16],
     b: &[0; 16],

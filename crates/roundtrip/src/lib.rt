@@ -21,7 +21,7 @@ mod tests {
         fields
     }
 
-    // No places yet of the entries of a line.
+    // No places yet of the entries of a line: an array, as `entries` takes it.
     fn no_places() -> [Placed; 16] {
         [Placed {
             entry: Entry::Any,
@@ -36,7 +36,8 @@ mod tests {
             .is_some_and(|(_, text)| text == line)
     }
 
-    // The byte at which a row's line is refused, or 0.
+    // The byte at which a row's line is refused, or 0. Rows and columns have two such functions each: one
+    // for both would take a reader, a writer and an answer as closures, for two callers.
     fn row_refused(line: &[u8]) -> usize {
         let mut fields = after_word(line);
         row_line(&mut fields).err().unwrap_or(0)

@@ -35,6 +35,7 @@ fn written(
 }
 
 // The number of the refusal, or 0, and what the first two entries of A's and B's lists then are.
+// Arrays one too long, and no `EncounterMemory`, since lists of a wrong length are tried too.
 fn issue(draft: Draft, lists: &Lists<'_, Names, Figure>, length: usize) -> [u32; 5] {
     let mut a = [9; 17];
     let mut b = [9; 17];

@@ -1,4 +1,7 @@
 // How many encounters are made of starts, as far as issue wants to know.
+//
+// A quantity and its number are two parameters, as `enumerate` gives them, and the view is a third: a
+// struct of them would be made for each quantity and taken apart in each function.
 ghost use Rattle.std.specs.Prelude.{◌≡◌, ◌+◌, ◌*◌, ◌≤◌, min};
 ghost use Rattle.lists.specs.Held.{seen};
 ghost use Rattle.starts.specs.Counted.{starts_of, within_limit};
@@ -56,7 +59,8 @@ fn times_starts<K: Kind, R: ResultKind>(
     Some(product * n)
 }
 
-// A product with the numbers of starts of the places of one more quantity.
+// A product with the numbers of starts of the places of one more quantity: of a flight quantity twice.
+// A `match` on the scope, since each function that has one does another thing with it.
 fn times_quantity<K: Kind, R: ResultKind>(
     view: &View<'_, K, R>,
     i: usize,

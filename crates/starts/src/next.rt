@@ -1,5 +1,7 @@
 // The start after a value: the earliest stop after it, over all cells in rows that read the
 // quantity, up to its greatest value.
+//
+// A view and a column or a quantity's number are two parameters: a struct of both would be made at each call.
 ghost use Rattle.std.specs.Prelude.{◌≡◌, ◌<◌, ◌≤◌, ◌==◌};
 ghost use Rattle.lists.specs.Held.{seen};
 ghost use Rattle.starts.specs.Stops.{cells_from, stop_of};
@@ -28,7 +30,8 @@ fn entry_stop<K: Kind>(entry: Entry<K::Cell>, after: K::Value) -> Option<K::Valu
     }
 }
 
-// The earliest stop of a column's cells in rows that read the quantity. Never n is column 16 + n.
+// The earliest stop of a column's cells in rows that read the quantity. Never n is column 16 + n. All
+// its callers ask below 24, and `View::column` takes every number.
 fn column_stop<K: Kind, R: ResultKind>(
     view: &View<'_, K, R>,
     column: usize,

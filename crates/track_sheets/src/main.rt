@@ -51,6 +51,7 @@ fn probe_pairs(rt: &HostRuntime, sheets: &Sheets<'_, Tracks>) -> anyhow::Result<
         (track(3, true), track(3, true)),
         (track(25, true), track(0, false)),
     ] {
+        // the lists of an encounter have 16 values
         let a = [one; 16];
         let b = [two; 16];
         let pair = [nothing(); 16];

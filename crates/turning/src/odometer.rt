@@ -15,7 +15,8 @@ use lists::view::View;
 use results::ResultKind;
 use starts::next::next_start;
 
-// Puts the quantity's least value into the lists that it needs.
+// Puts the quantity's least value into the lists that it needs. A `match` on the scope here and below,
+// since each function that has one does another thing with it.
 fn reset_quantity<V: Copy>(i: usize, q: Quantity<V>, at: &mut Showing<'_, V>)
     ensures after { shown at.new ≡ at_least i q.least q.scope (shown at.old) }
     ensures lent { SameShowing at.old at.new }

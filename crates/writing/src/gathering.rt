@@ -10,7 +10,9 @@ use results::figure::Figure;
 // A sheet that a page can carry: figures over the joined house kinds.
 pub type PageView<'a> = View<'a, House, Figure>;
 
-// The entries of a column in the rows in use, in front. Never n is column 16 + n.
+// The entries of a column in the rows in use, in front. Never n is column 16 + n. All its callers ask
+// below 24, and an entry is read by its place, which has to lie in the list.
+// An array beside the count of rows: nothing is on the heap.
 pub(crate) fn gathered(view: &PageView<'_>, column: usize) -> [Entry<Cell>; 16]
     requires { column < 24 }
     ensures { take view.now.counts.rows result ≡ column_of view.now.entries.now view.now.counts.rows column }
