@@ -12,7 +12,8 @@ use kinds::Kind;
 use lists::view::View;
 use results::ResultKind;
 
-// One question: the fault is that of a no.
+// One question: the fault is that of a no. An `if`, since `then_some(()).ok_or(..)` would build an
+// answer to throw it away.
 fn refuse_unless(yes: bool, fault: SheetFault) -> Result<(), SheetFault>
     ensures { result ≡ told (first_no ((yes, fault) ∷ [])) }
 {

@@ -7,10 +7,7 @@ use std::alloc::{AllocError, Global};
 
 // So many times the same bytes, and then an end.
 fn repeated(heap: Global, part: &[u8], times: usize, end: &[u8]) -> Result<Vec<u8>, AllocError> {
-    let mut page = Vec::new(heap);
-    for _ in 0..times {
-        page.extend_from_slice(part)?;
-    }
+    let mut page = part.repeat(heap, times)?;
     page.extend_from_slice(end)?;
     Ok(page)
 }

@@ -19,7 +19,8 @@ pub type Value = Either<i32, Either<u32, u16>>;
 // A band of measures, a set of names or a window of minutes.
 pub type Cell = Either<Band, Either<NameSet, Window>>;
 
-// A measure as a value of the house.
+// A measure as a value of the house. Functions and no `From`, here and below: neither `Either` nor what
+// it is made of is this crate's.
 pub fn measure_value(z: i32) -> Value
     ensures { result ≡ Left z }
 {

@@ -51,7 +51,8 @@ pub enum Entry<C> {
 }
 
 // How much of its four lists a sheet uses: so many quantities, rows, columns and nevers from the
-// front of theirs, and whether it has a default result.
+// front of theirs, and whether it has a default result. No ghost field keeps them in bounds: the
+// definitions reckon with all such counts, and `Draft`, `Issued` and `View` say it of theirs.
 #[derive(Clone, Copy)]
 pub struct Counts {
     pub quantities: usize,

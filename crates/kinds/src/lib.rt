@@ -23,7 +23,8 @@ pub trait Kind {
     fn at_or_before(a: Self::Value, b: Self::Value) -> bool
         ensures { result ≡ nat_le (meaning.rank a) (meaning.rank b) };
 
-    // Do the two values make a lawful range?
+    // Do the two values make a lawful range? Two values, here and below: this one asks of two that may
+    // make none, and only a joined kind looks at those of `fits`.
     fn is_range(least: Self::Value, greatest: Self::Value) -> bool
         ensures { result ≡ meaning.range least greatest };
 
@@ -43,7 +44,8 @@ pub trait Kind {
     ghost lawful: { Lawful meaning };
 }
 
-// The earlier of two stops by a test of which is not after the other, or the one there is.
+// The earlier of two stops by a test of which is not after the other, or the one there is. An impl of
+// `Kind` calls this one, since generic code at its own kind gets no proof there.
 pub fn earlier_by<V: Copy, F: FnOnce(V, V) -> bool>(
     a: Option<V>,
     b: Option<V>,

@@ -1,4 +1,5 @@
-// Cells on a page.
+// Cells on a page. Dots, bang, braces and colon are matched as character literals, here and in
+// `numbers`: a rule of this repository.
 ghost use Rattle.std.specs.Prelude.{◌≡◌, ◌+◌, ◌<◌, ◌≤◌, length, IfSome};
 ghost use Rattle.text.specs.Cells.{dots as dots_of, band as band_of, window as window_of, member as member_of, listed as listed_of, names as names_of, unmarked as unmarked_of, cell as cell_of, entry as entry_of};
 

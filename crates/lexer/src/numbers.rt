@@ -1,4 +1,7 @@
-// Numbers on a page.
+// Numbers on a page. The minus and the colon are matched as character literals, as in `cells`.
+//
+// Several functions say of an `Option` that its number is below 10,000,000: a type for such numbers
+// would be unwrapped at once.
 ghost use Rattle.std.specs.Prelude.{◌≡◌, ◌<◌, ◌≤◌, length, IfSome};
 ghost use Rattle.text.specs.Numbers.{digit as digit_of, number as number_of, measure as measure_of, time as time_of, minutes as minutes_of, figures, below, above};
 

@@ -62,9 +62,7 @@ impl<'a> Fields<'a> {
         ensures byte { byte_of self.new ≡ rest_at (byte_of self.old) (left self.old) }
     {
         let byte = self.byte();
-        let Some(field) = self.next_field() else {
-            return Err(1);
-        };
+        let field = self.next_field().ok_or(1usize)?;
         read(field).ok_or(byte)
     }
 

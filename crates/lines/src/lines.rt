@@ -1,4 +1,5 @@
-// What each kind of line says after its first word, or the byte of the first wrong field.
+// What each kind of line says after its first word, or the byte of the first wrong field. An error is
+// the byte alone, as by `Fields::next_as`.
 ghost use Rattle.std.specs.Prelude.{◌≡◌};
 ghost use Rattle.text.specs.Forms.{formed};
 ghost use Rattle.text.specs.Lines.{quantity as quantity_of, row as row_of, entries as entries_of, column as column_of, default as default_of, results, Kept, KeptColumn};

@@ -18,7 +18,7 @@ use results::ResultKind;
 fn mode_fits(mode: Mode, scope: Scope) -> bool
     ensures { result ≡ mode_fits mode scope }
 {
-    matches!(mode, Mode::Pair) == matches!(scope, Scope::Pair)
+    (mode == Mode::Pair) == (scope == Scope::Pair)
 }
 
 impl<'a, K: Kind, R: ResultKind> View<'a, K, R> {

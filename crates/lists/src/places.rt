@@ -5,7 +5,7 @@ ghost use Rattle.std.specs.Prelude.{◌≡◌, slice_set};
 pub fn put<T: Copy>(items: &mut [T], i: usize, item: T)
     ensures { items.new ≡ slice_set items.old i item }
 {
-    // Of a slice written through `get_mut` only the length would be known.
+    // Tried through `get_mut`: a proof then knows nothing of what the slice holds.
     if i < items.len() {
         items[i] = item;
     }

@@ -1,4 +1,5 @@
-// The margins of two flights over their minima, for any numbers whatever: none can overflow.
+// The margins of two flights over their minima, for any numbers whatever: none can overflow. Two fixes
+// and not `Flights`: what flights share plays no part in three of the margins.
 ghost use Rattle.std.specs.Prelude.{◌≡◌, neg_ℤ, pos, negsuc, ◌-ℤ◌, ◌*ℤ◌, ◌≤ℤ◌};
 ghost use Rattle.tables.specs.Margins.{difference, lateral_margin, margin_at, minutes_after, opposite_margin, same_margin, vertical_margin};
 

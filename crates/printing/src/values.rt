@@ -1,4 +1,5 @@
-// Values as they are printed.
+// Values as they are printed. Functions: a `Display` of `Value` belongs to the crate of `Either`, and a
+// type around it would be made for each value.
 ghost use Rattle.std.specs.Prelude.{◌≡◌, IfOk, string_bytes};
 ghost use Rattle.reports.specs.Reports.{value_shown};
 ghost use Rattle.text.specs.Texts.{time_text, value_text};
@@ -27,8 +28,8 @@ pub fn value_text(heap: Global, value: Value) -> Result<String, AllocError>
     }
 }
 
-// A value after a space, if there is one. A `match`, since a closure under `map_or` that takes memory
-// could not fail where it does.
+// A value after a space, if there is one. A `match`: under `map_or_else` two closures would hold the
+// same lines.
 pub fn value_shown(heap: Global, value: Option<Value>) -> Result<String, AllocError>
     ensures { IfOk result (λ s. string_bytes s ≡ value_shown value) }
 {

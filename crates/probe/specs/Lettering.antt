@@ -1,5 +1,5 @@
 -- The refusals of a probe. Assumes nothing.
-use Rattle.std.specs.Prelude.{ℕ, List, codes, Ok, Err, Result}
+use Rattle.std.specs.Prelude.{ℕ, List, ◌++◌, codes, decimal, Ok, Err, Result}
 use Rattle.faults.specs.Numbers.{sheet_number}
 use Rattle.faults.specs.declared.SheetFault.{SheetFault}
 use Rattle.probe.specs.declared.fault.Letter.{Letter}
@@ -18,6 +18,11 @@ letter_text N = codes "N"
 abbrev pub probe_number : ProbeFault → ℕ
 probe_number Limits = 23
 probe_number (Sheet k f) = sheet_number f
+
+-- a refusal as it is printed
+abbrev pub fault_text : ProbeFault → List ℕ
+fault_text Limits = codes "refused 23"
+fault_text (Sheet k f) = codes "refused " ++ decimal (sheet_number f) ++ codes " by " ++ letter_text k
 
 -- a refusal comes up whole, with the sheet's letter
 abbrev pub lettered : {R : Type 0} → Letter → Result R SheetFault → Result R Lettered

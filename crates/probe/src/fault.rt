@@ -1,6 +1,6 @@
 // Why a probe is refused: its own limits, or a look-up's refusal with the letter of the sheet.
 ghost use Rattle.std.specs.Prelude.{◌≡◌, Some};
-ghost use Rattle.probe.specs.Lettering.{letter_text, probe_number};
+ghost use Rattle.probe.specs.Lettering.{fault_text, letter_text, probe_number};
 ghost use Rattle.probe.specs.declared.fault.ProbeFault.TheVariants.{Sheet as OfSheet};
 
 use faults::SheetFault;
@@ -23,7 +23,8 @@ pub struct Lettered {
     pub fault: SheetFault,
 }
 
-// Why a probe is refused.
+// Why a probe is refused. The letter and the fault, not `Lettered`: whoever tells a refusal takes the
+// two apart.
 #[derive(Clone, Copy)]
 pub enum ProbeFault {
     // A fix or a time is out of its limits.
@@ -40,6 +41,17 @@ impl fmt::Display for Letter {
             Letter::L => write!(f, "L"),
             Letter::G => write!(f, "G"),
             Letter::N => write!(f, "N"),
+        }
+    }
+}
+
+impl fmt::Display for ProbeFault {
+    ghost output = { λ k. Some (fault_text k) };
+
+    fn fmt<W: fmt::Write>(&self, f: &mut fmt::Formatter<W>) -> fmt::Result {
+        match self {
+            ProbeFault::Limits => write!(f, "refused 23"),
+            ProbeFault::Sheet(letter, fault) => write!(f, "refused {} by {letter}", fault.number()),
         }
     }
 }

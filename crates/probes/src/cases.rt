@@ -63,6 +63,7 @@ impl Case {
     }
 }
 
+// Three numbers and no `Fix`, here and below, so that the list of cases stays short.
 fn slow(level: i32, lateral: i32, time: i32) -> Flight {
     Flight {
         fix: Fix {

@@ -25,12 +25,7 @@ impl fmt::Display for MinimaText {
                     }
                 }
             }
-            Err(refusal) => write!(
-                f,
-                "none, refused {} by {}",
-                refusal.fault.number(),
-                refusal.letter
-            ),
+            Err(refusal) => write!(f, "none, {}", ProbeFault::from(refusal)),
         }
     }
 }
@@ -53,13 +48,7 @@ impl fmt::Display for AnswerText {
                 };
                 write!(f, "{v} ft, {l} tenths of a nm, {g} s: {said}")
             }
-            Err(fault) => {
-                write!(f, "refused {}", fault.number())?;
-                match fault {
-                    ProbeFault::Limits => Ok(()),
-                    ProbeFault::Sheet(letter, _) => write!(f, " by {letter}"),
-                }
-            }
+            Err(fault) => write!(f, "{fault}"),
         }
     }
 }

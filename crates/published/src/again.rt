@@ -5,7 +5,8 @@ use reading::reading::read;
 use results::figure::Figure;
 use writing::writing::write;
 
-// Reads a page and writes its draft: how many bytes, or none where one of the two refuses.
+// Reads a page and writes its draft: how many bytes, or none where one of the two refuses. A test has
+// such lines too, and tells which of the two refused; no crate is below both for one function.
 fn rewrite(page: &[u8], out: &mut [u8]) -> Option<usize> {
     let mut memory = SheetMemory::new(measure_value(0), Figure { value: 0 });
     let mut lists = memory.lend();

@@ -21,7 +21,8 @@ use page_faults::{LineFault, PageFault, PageRefusal};
 use sheet::states::Draft;
 use text::types::{Section, Word};
 
-// The first word of a line, where it may stand in this section, and the section after it.
+// The first word of a line, where it may stand in this section, and the section after it. Of what is
+// left it says what `Fields::next_as` says.
 fn word_of(section: Section, fields: &mut Fields<'_>) -> Option<(Word, Section)>
     ensures word { (k : ℕ) → word_at section k (first_word (head (left fields.old))) ≡ word_or k result }
     ensures left { left fields.new ≡ rest (left fields.old) }

@@ -42,6 +42,7 @@ impl Told for Period {
     }
 }
 
+// Words of this program, here and below: as of `Told`, no `Display` stands outside of a type's crate.
 fn side_word(side: Side) -> &'static str {
     match side {
         Side::OfA => "A",

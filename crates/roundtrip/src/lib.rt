@@ -36,11 +36,10 @@ mod tests {
             .is_some_and(|(_, text)| text == line)
     }
 
-    // The byte at which a row's line is refused, or 0. Rows and columns have two such functions each: one
+    // The byte at which a row's line is refused. Rows and columns have two such functions each: one
     // for both would take a reader, a writer and an answer as closures, for two callers.
-    fn row_refused(line: &[u8]) -> usize {
-        let mut fields = after_word(line);
-        row_line(&mut fields).err().unwrap_or(0)
+    fn row_refused(line: &[u8]) -> Option<usize> {
+        row_line(&mut after_word(line)).err()
     }
 
     // Whether a row's line is written as it was read.
@@ -56,12 +55,9 @@ mod tests {
         is_written(&out, end, line)
     }
 
-    // The byte at which the line of a column of five entries is refused, or 0.
-    fn column_refused(line: &[u8]) -> usize {
-        let mut fields = after_word(line);
-        column_line(&mut fields, 5, &mut no_places())
-            .err()
-            .unwrap_or(0)
+    // The byte at which the line of a column of five entries is refused.
+    fn column_refused(line: &[u8]) -> Option<usize> {
+        column_line(&mut after_word(line), 5, &mut no_places()).err()
     }
 
     // Whether the line of a column of five entries is written as it was read.
@@ -83,24 +79,24 @@ mod tests {
     fn rows(rt: HostRuntime) {
         assert!(rt; row_again(b"row 0 both"));
         assert!(rt; row_again(b"row 15 A"));
-        assert_eq!(rt; row_refused(b"row 0"), 1);
-        assert_eq!(rt; row_refused(b"row 0 "), 7);
-        assert_eq!(rt; row_refused(b"row  0 A"), 5);
-        assert_eq!(rt; row_refused(b"row 00 A"), 5);
-        assert_eq!(rt; row_refused(b"row 0 any"), 7);
-        assert_eq!(rt; row_refused(b"row 0 A "), 9);
+        assert_eq!(rt; row_refused(b"row 0"), Some(1));
+        assert_eq!(rt; row_refused(b"row 0 "), Some(7));
+        assert_eq!(rt; row_refused(b"row  0 A"), Some(5));
+        assert_eq!(rt; row_refused(b"row 00 A"), Some(5));
+        assert_eq!(rt; row_refused(b"row 0 any"), Some(7));
+        assert_eq!(rt; row_refused(b"row 0 A "), Some(9));
     }
 
     #[test]
     fn columns(rt: HostRuntime) {
         assert!(rt; column_again(b"column -15 0..280 !-5..5 {0,3,31} 22:00-05:59 ."));
         assert!(rt; column_again(b"column 0 . . {} . 3..0"));
-        assert_eq!(rt; column_refused(b"column 0 . . . ."), 1);
-        assert_eq!(rt; column_refused(b"column 0 . . . . . ."), 20);
-        assert_eq!(rt; column_refused(b"column -0 . . . . ."), 8);
-        assert_eq!(rt; column_refused(b"column 0 . {3,0} . . ."), 12);
-        assert_eq!(rt; column_refused(b"column 0 . . {32} . ."), 14);
-        assert_eq!(rt; column_refused(b"column 0 . . . 24:00-05:59 ."), 16);
+        assert_eq!(rt; column_refused(b"column 0 . . . ."), Some(1));
+        assert_eq!(rt; column_refused(b"column 0 . . . . . ."), Some(20));
+        assert_eq!(rt; column_refused(b"column -0 . . . . ."), Some(8));
+        assert_eq!(rt; column_refused(b"column 0 . {3,0} . . ."), Some(12));
+        assert_eq!(rt; column_refused(b"column 0 . . {32} . ."), Some(14));
+        assert_eq!(rt; column_refused(b"column 0 . . . 24:00-05:59 ."), Some(16));
     }
 }
 

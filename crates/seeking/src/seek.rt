@@ -1,5 +1,8 @@
 // The questions that issue asks of the encounters of a sheet, each over all that are made of
 // starts.
+//
+// That the view is acceptable and the lists whole are premises: both are asked of a `View` and of lists
+// in hand, so no ghost field of theirs can say it.
 ghost use Rattle.std.specs.Prelude.{◌≡◌, true, length};
 ghost use Rattle.lists.specs.Held.{SameShowing, encounter_of, seen, shown};
 ghost use Rattle.seeking.specs.Seeks.{Ended, Found, Tests, clash_fault};
@@ -37,6 +40,7 @@ fn seek_on<K: Kind, R: ResultKind, F: Fn(&Encounter<'_, K::Value>) -> bool>(
         (reset_of K.Kind.meaning (seen view.now) (places (seen view.now)) (shown at.old)) result (shown at.new) }
     ensures lent { SameShowing at.old at.new }
 {
+    // a count with no index: it bounds the way, so that the loop ends
     for _ in 0..count {
         if is_sought(&at.encounter()) {
             return true;

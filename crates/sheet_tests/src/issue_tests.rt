@@ -34,7 +34,8 @@ fn written(
     Ok(draft)
 }
 
-// The number of the refusal, or 0, and what the first two entries of A's and B's lists then are.
+// The number of the refusal, or 0, then A's first value, B's, A's second and the pair's first: five
+// numbers, compared in one line.
 // Arrays one too long, and no `EncounterMemory`, since lists of a wrong length are tried too.
 fn issue(draft: Draft, lists: &Lists<'_, Names, Figure>, length: usize) -> [u32; 5] {
     let mut a = [9; 17];
@@ -77,9 +78,7 @@ fn all(length: usize) -> Result<[[u32; 5]; 4], SheetFault> {
 // What is shown stands in the needed entries, and the others are as they were.
 #[test]
 fn shown_encounters(rt: HostRuntime) -> Result<(), Fail> {
-    let Ok(found) = all(16) else {
-        return Err(Fail::new("a draft call was refused"));
-    };
+    let found = all(16).map_err(|_| Fail::new("a draft call was refused"))?;
     assert_eq!(rt; found[0], [16, 1, 1, 9, 9]);
     assert_eq!(rt; found[1], [17, 2, 2, 9, 9]);
     assert_eq!(rt; found[2], [18, 1, 2, 9, 9]);
@@ -91,9 +90,7 @@ fn shown_encounters(rt: HostRuntime) -> Result<(), Fail> {
 #[test]
 fn encounter_lists_of_wrong_length(rt: HostRuntime) -> Result<(), Fail> {
     for length in [15, 17] {
-        let Ok(found) = all(length) else {
-            return Err(Fail::new("a draft call was refused"));
-        };
+        let found = all(length).map_err(|_| Fail::new("a draft call was refused"))?;
         assert_eq!(rt; found[0], [13, 9, 9, 9, 9]);
         assert_eq!(rt; found[3], [13, 9, 9, 9, 9]);
     }

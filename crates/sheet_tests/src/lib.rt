@@ -16,7 +16,7 @@ mod tests {
     use sheet::states::Draft;
     use std::process::Abort;
 
-    // The number of a refusal, or 0.
+    // The number by which users know a refusal, or 0: each line of a test names one number.
     fn number(answer: Result<(), SheetFault>) -> u8 {
         answer.err().map_or(0, |fault| fault.number())
     }
@@ -64,6 +64,7 @@ mod tests {
 
     // One more of each than a sheet can have, at fault otherwise too.
     fn full_sheet(rt: &impl Abort, draft: &mut Draft, lists: &mut Lists<'_, Measure, Figure>) {
+        // a count with no index: one more of each
         for _ in 0..16 {
             let _ = draft.name_quantity(lists, levels(0, 9));
             let _ = draft.add_row(lists, row(0, Mode::B));

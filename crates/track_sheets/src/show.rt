@@ -105,15 +105,7 @@ fn print_verdict(
             let separated = verdict.is_separated();
             println!(rt; "  margins {vertical} {lateral} {longitudinal}, separated: {separated}")?;
         }
-        Err(fault) => {
-            let number = fault.number();
-            match fault {
-                ProbeFault::Limits => println!(rt; "  probe refused {number}")?,
-                ProbeFault::Sheet(letter, _) => println!(rt;
-                    "  probe refused {number} by {letter}"
-                )?,
-            }
-        }
+        Err(fault) => println!(rt; "  probe {fault}")?,
     }
     Ok(())
 }
