@@ -17,7 +17,8 @@ fn clear<C: Copy>(entries: &mut [Entry<C>], first: usize, step: usize, count: us
     requires { (k : ℕ) → k < count → step * k + first < 768 }
     ensures { entries.new ≡ wiped entries.old (map (λ k. step * k + first) (range_with_len 0 count)) }
 {
-    // by index: after an adapter of `iter_mut` a proof knows nothing of the entries
+    // by index: tried with `skip`, `step_by` and `take` of `iter_mut`, and with `get_mut`; after each it
+    // stayed open what the entries are
     for k in 0..count {
         put(entries, step * k + first, Entry::Any);
     }

@@ -1,18 +1,17 @@
 -- The questions of issue, one after the other. Assumes nothing.
-use Rattle.std.proofs.Common.{◌≡◌, ℕ, Bool, true, false, cond, not, ◌&&◌, ◌||◌, leb, List, [], ◌∷◌, is_some, Some, None, Ok, Err, Option, unwrap_or, sym, refl, ap, ◌∙◌, subst}
+use Rattle.std.proofs.Common.{◌≡◌, ℕ, Bool, true, false, cond, not, ◌&&◌, ◌||◌, List, [], ◌∷◌, is_some, Some, None, Ok, Err, Option, unwrap_or, sym, refl, ap, ◌∙◌, subst}
 use Rattle.std.specs.Option.{option_map}
-use Rattle.std.proofs.lemmas.Bool.{both_ways, or_parts, cond-true, cond-false, cond_both}
+use Rattle.std.proofs.lemmas.Bool.{both_ways, or_parts, cond-false, cond_both}
 use Rattle.faults.specs.declared.SheetFault.{SheetFault}
-use Rattle.faults.specs.declared.SheetFault.TheVariants.{EncounterLists, TooManyEncounters, AllBarred, Gap as GapFault, Asymmetry as AsymmetryFault}
+use Rattle.faults.specs.declared.SheetFault.TheVariants.{AllBarred, Gap as GapFault, Asymmetry as AsymmetryFault}
 use Rattle.kinds.specs.Meaning.{Meaning}
 use Rattle.results.specs.Results.{Results}
 use Rattle.tables.specs.Words.{first, or_else}
-use Rattle.tables.specs.Contents.{Contents, Encounter, places, whole}
+use Rattle.tables.specs.Contents.{Contents, Encounter, places}
 use Rattle.tables.specs.Outcomes.{Outcome, barred, gap, clash, answer, outcome, is_barred, is_gap, is_clash, symmetric}
 use Rattle.tables.specs.Starts.{count, from_starts, reset}
-use Rattle.tables.specs.Issues.{Issue, too_many, short_lists, all_barred, shown_gap, shown_asymmetry, accepted, answered, written, limit, if_gap, if_clash, gap_at, clash_at, asymmetry_at, every_barred, examined, issue}
+use Rattle.tables.specs.Issues.{Issue, all_barred, shown_gap, shown_asymmetry, accepted, answered, written, if_gap, if_clash, gap_at, clash_at, asymmetry_at, every_barred, examined}
 use Rattle.tables.proofs.Lists.{none-some, some_same}
-use Rattle.starts.specs.Counted.{within_limit}
 use Rattle.seeking.specs.Seeks.{first_of, open_in, gap_in, clash_in, asymmetry_in, fault_in, clash_fault, Found, Ended}
 
 ended_some : {X : Type 0} (o : Option X) (b : Bool) (x l : X) → b ≡ is_some o → x ≡ unwrap_or o l → b ≡ true → o ≡ Some x
@@ -105,25 +104,6 @@ module _ {V C R : Type 0} (m : Meaning V C) (r : Results R) (c : Contents V C R)
   clash-found lent gap e d h = absurd (both_ways false refl h)
   clash-found lent (clash i j) e d h = (refl, refl)
   clash-found lent (answer x) e d h = absurd (both_ways false refl h)
-
-  -- before the questions over the encounters
-  pub short : (lent : Encounter V) → whole lent ≡ false → Found m r c lent (issue m r c lent) (Err EncounterLists) lent
-  short lent h = found lent (issue m r c lent) short_lists lent (cond-false (whole lent) (cond (leb (count m c) limit) (examined m r c (from_starts m c lent)) too_many) short_lists h) refl
-
-  pub many : (lent : Encounter V) → whole lent ≡ true → None ≡ within_limit (count m c) → Found m r c lent (issue m r c lent) (Err TooManyEncounters) lent
-  many lent h n = found lent (issue m r c lent) too_many lent
-      (cond-true (whole lent) (cond (leb (count m c) limit) (examined m r c (from_starts m c lent)) too_many) short_lists h
-      ∙ cond_both (leb (count m c) limit) (Some (count m c)) None (λ o. None ≡ o → cond (leb (count m c) limit) (examined m r c (from_starts m c lent)) too_many ≡ too_many)
-      (λ _ k. none-some (count m c) k) (λ f _. cond-false (leb (count m c) limit) (examined m r c (from_starts m c lent)) too_many f) n) refl
-
-  pub few : (lent : Encounter V) (n : ℕ) → whole lent ≡ true → Some n ≡ within_limit (count m c) → (n ≡ count m c) × (examined m r c (from_starts m c lent) ≡ issue m r c lent)
-  few lent n h e = cond_both (leb (count m c) limit) (Some (count m c)) None (λ o. Some n ≡ o → (n ≡ count m c) × (examined m r c (from_starts m c lent) ≡ issue m r c lent))
-      (λ f k. (
-        some_same n (count m c) k,
-        sym (cond-true (whole lent) (cond (leb (count m c) limit) (examined m r c (from_starts m c lent)) too_many) short_lists h
-            ∙ cond-true (leb (count m c) limit) (examined m r c (from_starts m c lent)) too_many f),
-      ))
-      (λ _ k. none-some n (sym k)) e
 
   module _ (lent : Encounter V) where
     abbrev es : List (Encounter V)

@@ -56,9 +56,6 @@ module _ {V C R : Type 0} (m : Meaning V C) (law : Lawful m) (r : Results R) (c 
     abbrev pub End : Bool → Encounter V → Type 0
     End = Ended m c f (from lent) (least lent)
 
-    pub begun : (k : ℕ) → whole lent ≡ true → length (from lent) ≡ k → On k 0 lent
-    begun k w h = record { left = omega (arith, h); first = refl; others = refl; lengths = w }
-
     pub unfinished : {X : Type 0} (k n : ℕ) (e : Encounter V) → k ≤ n → On k n e → X
     unfinished k n e h on = absurd (let one : 1 ≤ length (from e) = omega (arith, ap length (one_by_one m law r c ok e on.lengths).1) in omega (arith, on.left))
 

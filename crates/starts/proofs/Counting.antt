@@ -1,7 +1,6 @@
 -- Counting starts, and products of their numbers up to the limit. Assumes nothing.
-use Rattle.std.proofs.Common.{◌≡◌, ℕ, suc, ◌+◌, ◌*◌, ◌/◌, ◌<◌, ◌≤◌, min, leb, List, [], ◌∷◌, ◌++◌, map, length, get_or, drop, Some, None, Option, sym, refl, ap, ◌∙◌, mul_assoc, mul-le-mul_left, mul-one, add-one, arith}
-use native.Mathlib.Nat.{mul-div-le, lt-mul-div-succ}
-use Rattle.std.proofs.lemmas.Bool.{cond-true, cond-false, cond_both, le-leb, lt-leb, leb-true, leb-false}
+use Rattle.std.proofs.Common.{◌≡◌, ℕ, suc, ◌+◌, ◌*◌, ◌<◌, ◌≤◌, leb, List, [], ◌∷◌, ◌++◌, map, length, get_or, drop, Some, None, Option, sym, refl, ap, subst, ◌∙◌, mul_assoc, mul-le-mul_left, mul-one, add-one, arith}
+use Rattle.std.proofs.lemmas.Bool.{cond-false, cond_both, lt-leb, leb-true, leb-false}
 use Rattle.kinds.specs.Meaning.{Meaning, Lawful}
 use Rattle.items.specs.declared.Scope.{Scope}
 use Rattle.items.specs.declared.Scope.TheVariants.{Flight, Pair}
@@ -9,36 +8,46 @@ use Rattle.items.specs.declared.Quantity.{Quantity}
 use Rattle.tables.specs.Words.{product}
 use Rattle.items.specs.declared.Side.TheVariants.{OfA}
 use Rattle.tables.specs.Contents.{Contents, Place, places_from, sides}
-use Rattle.tables.specs.Starts.{cells_of, onward, next, starts_on, starts_at}
+use Rattle.tables.specs.Starts.{onward, next, starts_on, starts_at}
 use Rattle.tables.specs.Bridges.{taken}
 use Rattle.tables.specs.Issues.{limit}
 use Rattle.tables.proofs.Lists.{none-some, some_same}
 use Rattle.tables.proofs.Covering.{starts-on}
-use Rattle.std.proofs.lemmas.List.{drop_more, drop_all}
+use Rattle.std.proofs.lemmas.List.{drop_more}
 use Rattle.starts.specs.Counted.{within_limit, starts_of}
+use Rattle.std.specs.Fn.{CalledAt}
+use Rattle.std.specs.Iterator.Adapters.{successors_next, successors_callee, successors_steps}
+use Rattle.std.specs.declared.iter.Successors.{Successors}
+use Rattle.std.proofs.lemmas.Iterator.{YieldsList}
+use Rattle.std.proofs.lemmas.Iterator.Splits.{YieldsList-from_shown_while}
+use denote.Param.Members.{Mut}
+use denote.Ref.{Bor}
 
--- the starts from v on: v alone, or one more than from the next one on
-module _ {V C : Type 0} (m : Meaning V C) (law : Lawful m) (xs : List C) (z v : V) where
-  starts_more : (s : V) → Some s ≡ next m xs z v → length (starts_on m xs z v) ≡ suc (length (starts_on m xs z s))
-  starts_more s e = ap length (starts-on m law xs z v ∙ sym (ap (λ o. v ∷ onward (starts_on m xs z) o) e))
+-- a chain in which each value gives the next start yields the starts
+module _ {V C F : Type 0} (m : Meaning V C) (law : Lawful m) (xs : List C) (z : V) (g : Mut F (Bor V × Unit {0}) (Option V)) (f : F) where
+  abbrev Gives : Type 0
+  Gives = (x : V) (r : Option V) (q : F) → CalledAt g f x r q → (q ≡ f) × (r ≡ next m xs z x)
 
-  starts-last : None ≡ next m xs z v → length (starts_on m xs z v) ≡ 1
-  starts-last e = ap length (starts-on m law xs z v ∙ sym (ap (λ o. v ∷ onward (starts_on m xs z) o) e))
+  abbrev left_in : Successors V F → List V
+  left_in s = onward (starts_on m xs z) (successors_next s)
+
+  left-none : (s t : Successors V F) → successors_callee s ≡ f → successors_steps g s None t → length (left_in s) ≡ 0
+  left-none s t p k = sym (ap (λ o. length (onward (starts_on m xs z) o)) k.0)
+
+  left-some : Gives → (s : Successors V F) (x : V) (t : Successors V F) → successors_callee s ≡ f → successors_steps g s (Some x) t → (successors_callee t ≡ f) × (left_in s ≡ x ∷ left_in t)
+  left-some gives s x t p k =
+      let h = gives x (successors_next t) (successors_callee t) (subst (λ e. CalledAt g e x (successors_next t) (successors_callee t)) p k.1) in
+      (h.0, sym (ap (onward (starts_on m xs z)) k.0) ∙ starts-on m law xs z x ∙ sym (ap (λ o. x ∷ onward (starts_on m xs z) o) h.1))
+
+  pub starts-yielded : (s : Successors V F) (v : V) → successors_next s ≡ Some v → successors_callee s ≡ f → Gives → YieldsList (successors_steps g) (λ x. x) s (starts_on m xs z v)
+  starts-yielded s v first closure gives =
+      subst (λ o. YieldsList (successors_steps g) (λ x. x) s (onward (starts_on m xs z) o)) first
+      (YieldsList-from_shown_while (successors_steps g) (λ x. x) left_in (λ s. successors_callee s ≡ f) left-none (left-some gives) s closure)
 
 module _ {V C R : Type 0} (m : Meaning V C) (c : Contents V C R) (i : ℕ) where
   pub starts-some : (v z : V) → 1 ≤ starts_of m c i v z
   unfolding starts_of
   starts-some v z = omega arith
-
-  module _ (law : Lawful m) where
-    -- with n starts before v: one more, or it is the last one
-    pub start-more : (n l : ℕ) (z v s : V) → Some s ≡ next m (cells_of c i) z v → n + starts_of m c i v z ≡ l → n + 1 + starts_of m c i s z ≡ l
-    unfolding starts_of
-    start-more n l z v s e inv = omega (arith, starts_more m law (cells_of c i) z v s e)
-
-    pub start-last : (n l : ℕ) (z v : V) → None ≡ next m (cells_of c i) z v → n + starts_of m c i v z ≡ l → n + 1 ≡ l
-    unfolding starts_of
-    start-last n l z v e inv = omega (arith, starts-last m law (cells_of c i) z v e)
 
 grow : (x y : ℕ) → 1 ≤ y → x ≤ x * y
 grow x y h = let a : x * 1 ≤ x * y = mul-le-mul_left x h in omega (arith, mul-one x)
@@ -51,9 +60,6 @@ taken-some n Flight h = some_more n n h h
 taken-some n Pair h = h
 
 -- what is told of a number
-pub told : (n : ℕ) → n ≤ limit → Some n ≡ within_limit n
-told n h = sym (cond-true (leb n limit) (Some n) None (le-leb n limit h))
-
 pub untold : (n : ℕ) → limit < n → None ≡ within_limit n
 untold n h = sym (cond-false (leb n limit) (Some n) None (lt-leb n limit h))
 
@@ -67,26 +73,7 @@ untold-is x e = cond_both (leb x limit) (Some x) None (λ o. None ≡ o → limi
 pub past : (x y : ℕ) → 1 ≤ y → limit < x → limit < x * y
 past x y h k = omega (arith, grow x y h)
 
--- so many starts as go into the limit
-pub passed : (p l n : ℕ) → 1 ≤ p → n ≡ min l (limit / p + 1) → limit / p < n → None ≡ within_limit (p * l)
-passed p l n h is over =
-    let more : limit / p + 1 ≤ l = omega arith in
-    let a : limit < p * (limit / p + 1) = lt-mul-div-succ limit h in
-    let b : p * (limit / p + 1) ≤ p * l = mul-le-mul_left p more in
-    untold (p * l) (omega arith)
-
-pub kept : (p l n : ℕ) → n ≡ min l (limit / p + 1) → n ≤ limit / p → (p * n ≤ limit) × (Some (p * n) ≡ within_limit (p * l))
-kept p l n is under =
-    let same : n ≡ l = omega arith in
-    let a : p * n ≤ p * (limit / p) = mul-le-mul_left p under in
-    let b : p * n ≤ limit = omega (arith, mul-div-le limit p) in
-    (b, told (p * n) b ∙ ap (λ k. within_limit (p * k)) same)
-
 -- the places of one quantity
-pub quantity-over : (p l : ℕ) (s : Scope) → 1 ≤ l → None ≡ within_limit (p * l) → None ≡ within_limit (p * taken s l)
-quantity-over p l Pair h e = e
-quantity-over p l Flight h e = untold (p * l * l) (past (p * l) l h (untold-is (p * l) e)) ∙ ap within_limit (mul_assoc p l l)
-
 pub quantity-twice : (p l once : ℕ) (s : Scope) {o : Option ℕ} → s ≡ Flight → Some once ≡ within_limit (p * l) → o ≡ within_limit (once * l) → o ≡ within_limit (p * taken s l)
 quantity-twice p l once s is e f =
     f ∙ ap within_limit (ap (λ k. k * l) (told_is once (p * l) e).0 ∙ mul_assoc p l l ∙ sym (ap (λ s. p * taken s l) is))
@@ -122,9 +109,6 @@ module _ {V C R : Type 0} (m : Meaning V C) (c : Contents V C R) where
     left_here i q h is =
         ap (from i) (drop_more qs i q h ∙ ap (λ q. q ∷ drop (i + 1) qs) (sym is)) ∙ from-here i q (drop (i + 1) qs) ∙ ap (λ k. here i q * from k (drop (i + 1) qs)) (sym (add-one i))
 
-    left_end : (i : ℕ) → length qs ≤ i → left i ≡ 1
-    left_end i h = ap (from i) (drop_all i qs h)
-
     pub counted-here : (i : ℕ) (q : Quantity V) (p more z : ℕ) → i < length qs → q ≡ get_or qs i q → Some more ≡ within_limit (p * here i q) → p * left i ≡ z → (more ≤ limit) × (more * left (i + 1) ≡ z)
     counted-here i q p more z h is e inv =
         let t = told_is more (p * here i q) e in
@@ -136,6 +120,3 @@ module _ {V C R : Type 0} (m : Meaning V C) (c : Contents V C R) where
         let a : limit < p * here i q * left (i + 1) = past (p * here i q) (left (i + 1)) (from_some (i + 1) (drop (i + 1) qs)) (untold-is (p * here i q) e) in
         let b : p * here i q * left (i + 1) ≡ z = mul_assoc p (here i q) (left (i + 1)) ∙ sym (ap (λ k. p * k) (left_here i q h is)) ∙ inv in
         untold z (omega arith)
-
-    pub counted-all : (i p z : ℕ) → length qs ≤ i → p ≤ limit → p * left i ≡ z → Some p ≡ within_limit z
-    counted-all i p z h b inv = told p b ∙ ap within_limit (sym (mul-one p) ∙ sym (ap (λ k. p * k) (left_end i h)) ∙ inv)

@@ -13,6 +13,7 @@ use items::{Quantity, Scope};
 use kinds::Kind;
 use lists::view::View;
 use results::ResultKind;
+use std::iter::successors;
 
 // The greatest count that a sheet may have.
 pub const LIMIT: u32 = 1_048_576;
@@ -27,15 +28,8 @@ fn starts_up_to<K: Kind, R: ResultKind>(
     requires { most ≤ 1048576 }
     ensures { result ≡ min (starts_of K.Kind.meaning (seen view.now) i q.least q.greatest) (most + 1) }
 {
-    let mut at = q.least;
-    // a chain from `successors` would count in usize, and need a cast back with a proof that it fits
-    for n in 0..most {
-        let Some(next) = next_start(view, i, q.greatest, at) else {
-            return n + 1;
-        };
-        at = next;
-    }
-    most + 1
+    let starts = successors(Some(q.least), |at| next_start(view, i, q.greatest, *at));
+    starts.take(most as usize + 1).count() as u32
 }
 
 // A product with the number of starts of one more place, unless it passes the limit.

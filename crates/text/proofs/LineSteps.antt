@@ -1,6 +1,6 @@
 -- Lines of a page and entries of a line, one by one.
 use Rattle.std.proofs.Common.{◌≡◌, ℕ, suc, ◌+◌, ◌-◌, ◌<◌, ◌≤◌, true, false, cond, eqb, List, [], ◌∷◌, ◌++◌, length, get_or, take, drop, Ok, Err, Result, sym, refl, ap, ◌∙◌, subst, append_assoc, append-nil, arith}
-use Rattle.std.proofs.lemmas.List.{at_drop_all, drop-drop, drop_more, length-take-le}
+use Rattle.std.proofs.lemmas.List.{drop-drop, drop_more, length-take-le}
 use Rattle.std.proofs.lemmas.Bool.{cond-true, le-leb}
 use Rattle.text.specs.Fields.{in_front, up_to}
 use Rattle.text.specs.Forms.{onward, none, formed, rest, rest_at}
@@ -25,16 +25,9 @@ lined-more page at to h e =
     let d : drop (suc u) (drop at page) ≡ drop (to + 1) page = drop-drop (suc u) at page ∙ ap (λ i. drop i page) k in
     f ∙ ap (λ n. take n (drop at page) ∷ lined (drop (suc u) (drop at page))) a ∙ ap (λ l. take (to - at) (drop at page) ∷ lined l) d
 
-pub lined-none : (page : List ℕ) (at : ℕ) → length page ≤ at → lined (drop at page) ≡ []
-lined-none page at h = at_drop_all lined page at h
-
 -- entries after those that are read
 abbrev pub following : List Placed → Result (List Placed) ℕ → Result (List Placed) ℕ
 following ps r = onward r (λ es. Ok (ps ++ es))
-
-pub following-none : (r : Result (List Placed) ℕ) → following [] r ≡ r
-following-none (Ok es) = refl
-following-none (Err b) = refl
 
 following-two : (ps : List Placed) (p : Placed) (r : Result (List Placed) ℕ) → following ps (onward r (λ es. Ok (p ∷ es))) ≡ following (ps ++ (p ∷ [])) r
 following-two ps p (Ok es) = ap Ok (sym (append_assoc ps (p ∷ []) es))

@@ -1,8 +1,8 @@
 -- The places of the quantities, one quantity after the other. Assumes nothing.
-use Rattle.std.proofs.Common.{◌≡◌, ℕ, suc, ◌+◌, Bool, true, false, cond, List, [], ◌∷◌, ◌++◌, length, drop, is_some, Some, None, Option, unwrap_or, sym, refl, ap, ◌∙◌, append_assoc, add-one, arith, length-append}
+use Rattle.std.proofs.Common.{◌≡◌, ℕ, suc, ◌+◌, Bool, true, false, cond, List, [], ◌∷◌, ◌++◌, length, drop, sym, ap, ◌∙◌, append_assoc, add-one, arith, length-append}
 use Rattle.items.specs.declared.Quantity.{Quantity}
 use Rattle.kinds.specs.Meaning.{Meaning}
-use Rattle.tables.specs.Contents.{Contents, Encounter, Place, places_from, value_of, put_at}
+use Rattle.tables.specs.Contents.{Contents, Encounter, Place, places_from, value_of}
 use Rattle.tables.specs.Starts.{turned, turned_at, next_at}
 use Rattle.lists.specs.Held.{SameShowing}
 use Rattle.lists.specs.declared.lent.Showing.{Showing}
@@ -29,11 +29,6 @@ module _ {V C R : Type 0} (m : Meaning V C) (c : Contents V C R) where
   turned-stays : (ps us : List (Place V)) (e x : Encounter V) → (true, x) ≡ turned m c us e → (true, x) ≡ turned m c (ps ++ us) e
   turned-stays [] us e x h = h
   turned-stays (p ∷ ps) us e x h = ap (λ s. cond s.0 s (turned_at m c p s (next_at m c p (value_of s.1 p)))) (turned-stays ps us e x h)
-
-  -- a value that has a next start takes it, and another one its least
-  pub moved-on : (p : Place V) (e : Encounter V) (o : Option V) → ◌≡◌ {A = Bool × Encounter V} (is_some o, put_at p (unwrap_or o p.quantity.least) e) (turned_at m c p (false, e) o)
-  moved-on p e None = refl
-  moved-on p e (Some v) = refl
 
   module _ (qs : List (Quantity V)) where
     abbrev pub on_from : ℕ → List (Place V)

@@ -89,7 +89,8 @@ pub fn turn<K: Kind, R: ResultKind>(view: &View<'_, K, R>, at: &mut Showing<'_, 
     ensures after { (result, shown at.new) ≡ turned K.Kind.meaning (seen view.now) (places (seen view.now)) (shown at.old) }
     ensures lent { SameShowing at.old at.new }
 {
-    // of what a closure under `any` changes, a proof would know nothing
+    // tried with `any`, its closure with and without clauses of its own, and with a `fold` that carries
+    // the lists; after each it stayed open what the lists show
     for (i, q) in view.quantities_in_use().iter().enumerate().rev() {
         if turn_quantity(view, i, *q, at) {
             return true;

@@ -1,5 +1,5 @@
-use Rattle.std.proofs.Common.{get_or, ◌∙◌, arith}
-use Rattle.text.proofs.Digits.{digit-is, small-below, step, stop, all}
+use Rattle.std.proofs.Common.{get_or, arith}
+use Rattle.text.proofs.Digits.{digit-is, small-below, all}
 use Rattle.lexer.proofs.numbers.digits.Goals as goal
 
 pub overflow_mul-n : goal.overflow_mul-n
@@ -7,12 +7,6 @@ overflow_mul-n c = omega (arith, small-below _ _ 6 c.loop-b.invariant.0 (omega a
 
 pub overflow_add-n : goal.overflow_add-n
 overflow_add-n c = omega (arith, small-below _ _ 6 c.loop-b.invariant.0 (omega arith), (digit-is (get_or c.args.field.now c.loop-b.b-index 0) _ c.in_ok-n.ensures).2)
-
-pub returns-in_err-n-clause-value : goal.returns-in_err-n-clause-value
-returns-in_err-n-clause-value c = c.from_residual.ensures ∙ stop _ _ _ _ c.loop-b.invariant c.loop-b-test.true c.in_err-n.ensures
-
-pub loop-b-preserved : goal.loop-b-preserved
-loop-b-preserved c = step _ _ _ _ c.loop-b.invariant c.loop-b-test.true c.in_ok-n.ensures
 
 pub returns : goal.returns
 returns c = record { value = all _ _ _ c.loop-b.invariant (omega arith); small = omega (arith, small-below _ _ 7 c.loop-b.invariant.0 (omega arith)) }

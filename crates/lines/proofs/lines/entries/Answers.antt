@@ -1,18 +1,11 @@
 use Rattle.std.proofs.Common.{◌≡◌, suc, ◌+◌, ◌-◌, ◌≤◌, [], ◌∷◌, ◌++◌, length, take, Err, sym, ap, ◌∙◌, ap₂, arith}
-use Rattle.std.proofs.lemmas.List.{length-set, length-append, length-take-le, take_all, take_more_set, take-append-le}
+use Rattle.std.proofs.lemmas.List.{length-set, length-append, take_all, take_more_set, take-append-le}
 use Rattle.std.proofs.lemmas.Result.{err_from_is_err_and}
 use Rattle.text.specs.Forms.{rest_at}
 use Rattle.text.specs.Lines.{in_row}
-use Rattle.text.proofs.LineSteps.{following, following-none, entries-more, entries-stop, entries-wrong, entries-all}
+use Rattle.text.proofs.LineSteps.{following, entries-more, entries-stop, entries-wrong, entries-all}
 use Rattle.lines.specs.Left.{left, byte}
 use Rattle.lines.proofs.lines.entries.Goals as goal
-
-pub loop-place-init : goal.loop-place-init
-loop-place-init c =
-    let s = c.args.fields.now in
-    let n = c.args.count in
-    let z : n - 0 ≡ n = omega arith in
-    (ap (λ m. following [] (in_row m (byte s) (left s))) z ∙ following-none (in_row n (byte s) (left s)), length-take-le c.args.count c.args.out.now (omega (arith, c.told-out, c.if-count-gt16.false)))
 
 pub returns-in_err-place : goal.returns-in_err-place
 returns-in_err-place c =

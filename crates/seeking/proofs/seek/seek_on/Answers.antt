@@ -1,14 +1,8 @@
-use Rattle.std.proofs.Common.{refl, ap, ◌∙◌}
+use Rattle.std.proofs.Common.{ap, ◌∙◌}
 use Rattle.lists.specs.Held.{seen, shown}
 use Rattle.turning.proofs.Turns.{same-on}
-use Rattle.seeking.proofs.Seeking.{tested, begun, hit, step, over, unfinished}
+use Rattle.seeking.proofs.Seeking.{tested, hit, step, over, unfinished}
 use Rattle.seeking.proofs.seek.seek_on.Goals as goal
-
-pub loop-init : goal.loop-init
-loop-init g c = (
-  λ f t ok w n. begun g.K.Kind.meaning g.met.K.Kind.lawful g.R.ResultKind.results (seen c.args.view.now) ok f (shown c.args.at.now) c.args.count w n,
-  record { a = refl; b = refl; pair = refl },
-)
 
 pub returns-then-is_sought : goal.returns-then-is_sought
 returns-then-is_sought g c = record {

@@ -1,16 +1,7 @@
 use Rattle.std.proofs.Common.{refl, arith}
 use Rattle.std.proofs.lemmas.List.{length-take, length-drop}
-use Rattle.text.proofs.LineSteps.{lined-more, lined-none}
+use Rattle.text.proofs.LineSteps.{lined-more}
 use Rattle.lines.proofs.reader.Reader.next_line.Goals as goal
-
-pub returns-then-self : goal.returns-then-self
-returns-then-self c = record {
-  left = lined-none c.args.self.now.page.now c.args.self.now.at c.if-self.true;
-  line = refl;
-  short = tt;
-  at = tt;
-  page = refl;
-}
 
 pub returns : goal.returns
 returns c = record {
