@@ -1,5 +1,5 @@
 // Making an edit: its questions first, and then what it writes.
-ghost use Rattle.std.specs.Prelude.{◌≡◌, IfOk, OnOk};
+ghost use Rattle.std.specs.Prelude.{◌≡◌, IfOk, OnErr, OnOk};
 ghost use Rattle.edits.specs.Meant.{EditLeaves, edit_of, given, ok_or, told};
 ghost use Rattle.lists.specs.Held.{SameLists, lists_of};
 ghost use Rattle.tables.specs.Answers.{edit_answer};
@@ -37,6 +37,8 @@ pub fn make<K: Kind, R: ResultKind>(
     ensures answer { Bounded counts → result ≡ given (edit_answer K.Kind.meaning R.ResultKind.results counts (lists_of lists.old) (edit_of edit)) (counts_after (edit_of edit) counts) }
     ensures left { Bounded counts → EditLeaves K.Kind.meaning R.ResultKind.results (edit_of edit) counts (lists_of lists.old) (ok_or result counts) (lists_of lists.new) }
     ensures few { IfOk result (λ n. Bounded n) }
+    ensures refused { OnOk result (Bounded counts) }
+    ensures kept { OnErr result (lists_of lists.new ≡ lists_of lists.old) }
     ensures lent { SameLists lists.old lists.new }
 {
     permitted(counts, lists, edit)?;

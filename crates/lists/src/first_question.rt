@@ -1,5 +1,6 @@
 // Are the lists of right length, and is each entry in use one that the draft calls would accept?
-ghost use Rattle.std.specs.Prelude.{◌≡◌, ◌<◌, ◌&&◌, length, OnOk};
+ghost use Rattle.std.specs.Prelude.{◌≡◌, ◌<◌, ◌&&◌, length, OnOk, IfErr, true};
+ghost use Rattle.faults.specs.declared.SheetFault.TheVariants.{Lists as WrongLists};
 ghost use Rattle.lists.specs.Held.{FirstAnswer, Looked, lists_of, seen};
 ghost use Rattle.std.specs.List.{slice_get};
 ghost use Rattle.tables.specs.Acceptance.{acceptable, default_lawful, entries_lawful, entry_lawful, mode_fits, range_lawful, row_lawful};
@@ -196,6 +197,7 @@ impl<'a, K: Kind, R: ResultKind> Lists<'a, K, R> {
     pub fn checked(&self, counts: Counts) -> Result<View<'_, K, R>, SheetFault>
         ensures answer { Bounded counts → FirstAnswer K.Kind.meaning R.ResultKind.results counts self.now result }
         ensures few { OnOk result (Bounded counts) }
+        ensures told { IfErr result (λ f. f ≡ WrongLists) }
     {
         if counts.quantities <= 16
             && counts.rows <= 16
@@ -208,9 +210,10 @@ impl<'a, K: Kind, R: ResultKind> Lists<'a, K, R> {
         }
     }
 
-    // Is the first question answered yes?
+    // Is the first question answered yes? It is not for counts that no draft can have.
     pub fn in_order(&self, counts: Counts) -> bool
-        ensures { Bounded counts → result ≡ in_order K.Kind.meaning R.ResultKind.results counts (lists_of self.now) }
+        ensures answer { Bounded counts → result ≡ in_order K.Kind.meaning R.ResultKind.results counts (lists_of self.now) }
+        ensures few { result ≡ true → Bounded counts }
     {
         self.checked(counts).is_ok()
     }

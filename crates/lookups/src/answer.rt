@@ -1,5 +1,5 @@
 // What a look-up answers.
-ghost use Rattle.std.specs.Prelude.{◌≡◌};
+ghost use Rattle.std.specs.Prelude.{◌≡◌, OnOk};
 ghost use Rattle.lists.specs.Held.{encounter_of, lists_of, seen};
 ghost use Rattle.lookups.specs.Steps.{asked_from, before, outcome_told};
 ghost use Rattle.outcomes.specs.Meant.{outcome_of};
@@ -60,7 +60,8 @@ pub fn look_up_in<K: Kind, R: ResultKind>(
     lists: &Lists<'_, K, R>,
     e: &Encounter<'_, K::Value>,
 ) -> Result<R, SheetFault>
-    ensures { Bounded counts → result ≡ look_up_answer K.Kind.meaning R.ResultKind.results counts (lists_of lists.now) (encounter_of e.now) }
+    ensures answer { Bounded counts → result ≡ look_up_answer K.Kind.meaning R.ResultKind.results counts (lists_of lists.now) (encounter_of e.now) }
+    ensures few { OnOk result (Bounded counts) }
 {
     answer(&lists.checked(counts)?, e)
 }

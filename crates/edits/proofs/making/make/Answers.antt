@@ -38,4 +38,4 @@ returns g c =
     let l = lists_of c.args.lists.now in
     let h = c.in_ok-permitted.ensures in
     let a = accepted m r c.args.counts l h.few k (h.answer h.few) c.count.result (lists_of c.write.new.lists) c.count.ensures c.write.ensures.left in
-    record { answer = λ _. a.0; left = λ _. a.1.0; few = a.1.1; lent = c.write.ensures.lent }
+    record { answer = λ _. a.0; left = λ _. a.1.0; few = a.1.1; refused = h.few; kept = tt; lent = c.write.ensures.lent }

@@ -6,7 +6,7 @@ use Rattle.sheet.proofs.states.Issued.look_up.Goals as goal
 
 pub returns : goal.returns
 returns g c =
-    let answer = c.look_up_in.ensures c.args.self.now.few in
+    let answer = c.look_up_in.ensures.answer c.args.self.now.few in
     record {
       answer = answer;
       rightly = looked-up-rightly g.K.Kind.meaning g.R.ResultKind.results (contents_of c.args.self.now.counts (lists_of c.args.lists.now)) (encounter_of c.args.e.now);
