@@ -28,6 +28,17 @@ fn is_met<K: Kind, R: ResultKind>(
         .all(|(row, entry)| entry_holds::<K>(row, entry, e))
 }
 
+// Does the encounter meet a column or a never? Never n is column 16 + n, and there are none beyond.
+pub fn meets_column<K: Kind, R: ResultKind>(
+    view: &View<'_, K, R>,
+    column: usize,
+    e: &Encounter<'_, K::Value>,
+) -> bool
+    ensures { column < 24 → result ≡ met K.Kind.meaning (seen view.now).rows (column_of view.now.entries.now view.now.counts.rows column) (encounter_of e.now) }
+{
+    column < 24 && is_met(view, column, e)
+}
+
 // Is a never met?
 fn is_barred<K: Kind, R: ResultKind>(view: &View<'_, K, R>, e: &Encounter<'_, K::Value>) -> bool
     ensures { result ≡ some_met K.Kind.meaning (seen view.now).rows (seen view.now).nevers (encounter_of e.now) }
@@ -61,7 +72,7 @@ fn next_unequal<K: Kind, R: ResultKind>(
 }
 
 // What an encounter gets that meets no column.
-fn unmet<K: Kind, R: ResultKind>(view: &View<'_, K, R>) -> Outcome<R>
+pub fn unmet<K: Kind, R: ResultKind>(view: &View<'_, K, R>) -> Outcome<R>
     ensures { outcome_of result ≡ judged_of R.ResultKind.results (seen view.now).default [] }
 {
     view.default_result()

@@ -1,0 +1,4 @@
+pub mod InSet
+pub mod Judging
+pub mod Lowest
+pub mod SetBits
