@@ -1,6 +1,6 @@
 -- Counting starts, and products of their numbers up to the limit. Assumes nothing.
 use Rattle.std.proofs.Common.{◌≡◌, ℕ, suc, ◌+◌, ◌*◌, ◌<◌, ◌≤◌, leb, List, [], ◌∷◌, ◌++◌, map, length, get_or, drop, Some, None, Option, sym, refl, ap, subst, ◌∙◌, mul_assoc, mul-le-mul_left, mul-one, add-one, arith}
-use Rattle.std.proofs.lemmas.Bool.{cond-false, cond_both, lt-leb, leb-true, leb-false}
+use Rattle.std.proofs.lemmas.Bool.{cond-true, cond-false, cond_both, le-leb, lt-leb, leb-true, leb-false}
 use Rattle.kinds.specs.Meaning.{Meaning, Lawful}
 use Rattle.items.specs.declared.Scope.{Scope}
 use Rattle.items.specs.declared.Scope.TheVariants.{Flight, Pair}
@@ -60,6 +60,9 @@ taken-some n Flight h = some_more n n h h
 taken-some n Pair h = h
 
 -- what is told of a number
+pub told : (n : ℕ) → n ≤ limit → Some n ≡ within_limit n
+told n h = sym (cond-true (leb n limit) (Some n) None (le-leb n limit h))
+
 pub untold : (n : ℕ) → limit < n → None ≡ within_limit n
 untold n h = sym (cond-false (leb n limit) (Some n) None (lt-leb n limit h))
 
@@ -72,6 +75,22 @@ untold-is x e = cond_both (leb x limit) (Some x) None (λ o. None ≡ o → limi
 -- one more factor that is not zero
 pub past : (x y : ℕ) → 1 ≤ y → limit < x → limit < x * y
 past x y h k = omega (arith, grow x y h)
+
+-- a product p with one more factor h, of which l is left, and k after it
+module _ (p h k : ℕ) {l z : ℕ} (is : l ≡ h * k) (inv : p * l ≡ z) where
+  regrouped : p * h * k ≡ z
+  regrouped = mul_assoc p h k ∙ sym (ap (λ n. p * n) is) ∙ inv
+
+  pub factor-told : (more : ℕ) → Some more ≡ within_limit (p * h) → (more ≤ limit) × (more * k ≡ z)
+  factor-told more e =
+      let t = told_is more (p * h) e in
+      let b : more ≤ limit = omega (arith, t.0, t.1) in
+      (b, ap (λ n. n * k) t.0 ∙ regrouped)
+
+  pub factor-over : 1 ≤ k → None ≡ within_limit (p * h) → None ≡ within_limit z
+  factor-over some e =
+      let a : limit < p * h * k = past (p * h) k some (untold-is (p * h) e) in
+      untold z (omega (arith, regrouped))
 
 -- the places of one quantity
 pub quantity-twice : (p l once : ℕ) (s : Scope) {o : Option ℕ} → s ≡ Flight → Some once ≡ within_limit (p * l) → o ≡ within_limit (once * l) → o ≡ within_limit (p * taken s l)
@@ -88,10 +107,10 @@ module _ {V C R : Type 0} (m : Meaning V C) (c : Contents V C R) where
   from_at i q Flight ps = let l = length (starts_at m c (record { side = OfA; number = i; quantity = q })) in sym (mul_assoc l l (product (map (λ p. length (starts_at m c p)) ps)))
   from_at i q Pair ps = refl
 
-  from-here : (i : ℕ) (q : Quantity V) (qs : List (Quantity V)) → from i (q ∷ qs) ≡ taken q.scope (starts_of m c i q.least q.greatest) * from (suc i) qs
+  pub from-here : (i : ℕ) (q : Quantity V) (qs : List (Quantity V)) → from i (q ∷ qs) ≡ taken q.scope (starts_of m c i q.least q.greatest) * from (suc i) qs
   from-here i q qs = from_at i q q.scope (places_from (suc i) qs)
 
-  from_some : (i : ℕ) (qs : List (Quantity V)) → 1 ≤ from i qs
+  pub from_some : (i : ℕ) (qs : List (Quantity V)) → 1 ≤ from i qs
   from_some i [] = omega arith
   from_some i (q ∷ qs) =
       let l = starts_of m c i q.least q.greatest in
@@ -110,13 +129,7 @@ module _ {V C R : Type 0} (m : Meaning V C) (c : Contents V C R) where
         ap (from i) (drop_more qs i q h ∙ ap (λ q. q ∷ drop (i + 1) qs) (sym is)) ∙ from-here i q (drop (i + 1) qs) ∙ ap (λ k. here i q * from k (drop (i + 1) qs)) (sym (add-one i))
 
     pub counted-here : (i : ℕ) (q : Quantity V) (p more z : ℕ) → i < length qs → q ≡ get_or qs i q → Some more ≡ within_limit (p * here i q) → p * left i ≡ z → (more ≤ limit) × (more * left (i + 1) ≡ z)
-    counted-here i q p more z h is e inv =
-        let t = told_is more (p * here i q) e in
-        let b : more ≤ limit = omega (arith, t.0, t.1) in
-        (b, ap (λ k. k * left (i + 1)) t.0 ∙ mul_assoc p (here i q) (left (i + 1)) ∙ sym (ap (λ k. p * k) (left_here i q h is)) ∙ inv)
+    counted-here i q p more z h is e inv = factor-told p (here i q) (left (i + 1)) (left_here i q h is) inv more e
 
     pub counted-over : (i : ℕ) (q : Quantity V) (p z : ℕ) → i < length qs → q ≡ get_or qs i q → None ≡ within_limit (p * here i q) → p * left i ≡ z → None ≡ within_limit z
-    counted-over i q p z h is e inv =
-        let a : limit < p * here i q * left (i + 1) = past (p * here i q) (left (i + 1)) (from_some (i + 1) (drop (i + 1) qs)) (untold-is (p * here i q) e) in
-        let b : p * here i q * left (i + 1) ≡ z = mul_assoc p (here i q) (left (i + 1)) ∙ sym (ap (λ k. p * k) (left_here i q h is)) ∙ inv in
-        untold z (omega arith)
+    counted-over i q p z h is e inv = factor-over p (here i q) (left (i + 1)) (left_here i q h is) inv (from_some (i + 1) (drop (i + 1) qs)) e

@@ -1,2 +1,2 @@
 mod Stopping
-mod Counting
+pub mod Counting

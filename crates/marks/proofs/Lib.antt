@@ -1,0 +1,4 @@
+pub mod Bits
+pub mod Narrowing
+pub mod Spanning
+pub mod Products
