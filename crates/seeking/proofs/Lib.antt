@@ -1,2 +1,3 @@
 mod Seeking
 mod Questions
+mod Telling

@@ -1,26 +1,23 @@
 -- The questions of issue, one after the other. Assumes nothing.
-use Rattle.std.proofs.Common.{◌≡◌, ℕ, Bool, true, false, cond, not, ◌&&◌, ◌||◌, List, [], ◌∷◌, is_some, Some, None, Ok, Err, Option, unwrap_or, sym, refl, ap, ◌∙◌, subst}
+use Rattle.std.proofs.Common.{◌≡◌, ℕ, Bool, true, false, cond, leb, not, ◌&&◌, ◌||◌, List, [], ◌∷◌, is_some, Some, None, Ok, Err, Option, Result, unwrap_or, sym, refl, ap, ◌∙◌, subst}
 use Rattle.std.specs.Option.{option_map}
-use Rattle.std.proofs.lemmas.Bool.{both_ways, or_parts, cond-false, cond_both}
+use Rattle.std.proofs.lemmas.Bool.{both_ways, or_parts, cond-true, cond-false, le-leb, lt-leb, cond_both}
 use Rattle.faults.specs.declared.SheetFault.{SheetFault}
-use Rattle.faults.specs.declared.SheetFault.TheVariants.{AllBarred, Gap as GapFault, Asymmetry as AsymmetryFault}
+use Rattle.faults.specs.declared.SheetFault.TheVariants.{TooManyEncounters, AllBarred, Gap as GapFault, Asymmetry as AsymmetryFault}
 use Rattle.kinds.specs.Meaning.{Meaning}
 use Rattle.results.specs.Results.{Results}
 use Rattle.tables.specs.Words.{first, or_else}
-use Rattle.tables.specs.Contents.{Contents, Encounter, places}
+use Rattle.tables.specs.Contents.{Contents, Encounter, places, whole}
 use Rattle.tables.specs.Outcomes.{Outcome, barred, gap, clash, answer, outcome, is_barred, is_gap, is_clash, symmetric}
 use Rattle.tables.specs.Starts.{count, from_starts, reset}
-use Rattle.tables.specs.Issues.{Issue, all_barred, shown_gap, shown_asymmetry, accepted, answered, written, if_gap, if_clash, gap_at, clash_at, asymmetry_at, every_barred, examined}
+use Rattle.tables.specs.Issues.{Issue, short_lists, too_many, all_barred, shown_gap, shown_asymmetry, accepted, answered, written, if_gap, if_clash, gap_at, clash_at, asymmetry_at, every_barred, examined, issue, limit}
+use Rattle.seeking.proofs.Seeking.{ended_some, ended-none}
 use Rattle.tables.proofs.Lists.{none-some, some_same}
-use Rattle.seeking.specs.Seeks.{first_of, open_in, gap_in, clash_in, asymmetry_in, fault_in, clash_fault, Found, Ended}
-
-ended_some : {X : Type 0} (o : Option X) (b : Bool) (x l : X) → b ≡ is_some o → x ≡ unwrap_or o l → b ≡ true → o ≡ Some x
-ended_some None b x l t s h = absurd (both_ways b t h)
-ended_some (Some y) b x l t s h = ap Some (sym s)
-
-ended-none : {X : Type 0} (o : Option X) (b : Bool) (x l : X) → b ≡ is_some o → x ≡ unwrap_or o l → b ≡ false → (o ≡ None) × (x ≡ l)
-ended-none None b x l t s h = (refl, s)
-ended-none (Some y) b x l t s h = absurd (both_ways b h t)
+use Rattle.starts.specs.Counted.{within_limit}
+use Rattle.starts.proofs.Counting.{told_is, untold-is}
+use Rattle.sets.specs.Walks.{first_of}
+use Rattle.judging.specs.Sought.{open_in, gap_in, clash_in, asymmetry_in, fault_in}
+use Rattle.seeking.specs.Seeks.{clash_fault, Found, Ended}
 
 first_holds : {X : Type 0} (f : X → Bool) (xs : List X) (x : X) → first_of f xs ≡ Some x → f x ≡ true
 first_holds f [] x e = none-some x e
@@ -164,3 +161,19 @@ module _ {V C R : Type 0} (m : Meaning V C) (r : Results R) (c : Contents V C R)
     none_found {e = e} n is h there k gone l out a end =
         subst (λ n. Found m r c lent (examined m r c es) (Ok n) e) (sym is)
         (found lent (examined m r c es) (accepted (count m c)) e (settled es (some h there) (none k gone).0 (none l out).0 (none a end).0) (none a end).1)
+
+  -- whole lists, and a count within the limit or past it
+  module _ (lent : Encounter V) (w : whole lent ≡ true) where
+    pub counted-found : {n : ℕ} {t : Result ℕ SheetFault} {e : Encounter V} → Some n ≡ within_limit (count m c) → Found m r c lent (examined m r c (from_starts m c lent)) t e → Found m r c lent (issue m r c lent) t e
+    counted-found {n} {t} {e} told h =
+        let few = le-leb (count m c) limit (told_is n (count m c) told).1 in
+        let all = examined m r c (from_starts m c lent) in
+        let is : issue m r c lent ≡ all = cond-true (whole lent) (cond (leb (count m c) limit) all too_many) short_lists w ∙ cond-true (leb (count m c) limit) all too_many few in
+        subst (λ i. Found m r c lent i t e) (sym is) h
+
+    pub uncounted-found : None ≡ within_limit (count m c) → Found m r c lent (issue m r c lent) (Err TooManyEncounters) lent
+    uncounted-found untold =
+        let many = lt-leb (count m c) limit (untold-is (count m c) untold) in
+        let all = examined m r c (from_starts m c lent) in
+        found lent (issue m r c lent) too_many lent
+        (cond-true (whole lent) (cond (leb (count m c) limit) all too_many) short_lists w ∙ cond-false (leb (count m c) limit) all too_many many) refl

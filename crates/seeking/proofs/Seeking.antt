@@ -13,7 +13,17 @@ use Rattle.std.specs.Borrow.{Bor}
 use Rattle.std.specs.Fn.{Shared}
 use Rattle.lists.specs.Held.{encounter_of}
 use Rattle.lists.specs.declared.lent.Encounter.{Encounter as LentEncounter}
-use Rattle.seeking.specs.Seeks.{first_of, Ended, Tests}
+use Rattle.sets.specs.Walks.{first_of}
+use Rattle.ways.specs.Ways.{EarliestFound}
+use Rattle.seeking.specs.Seeks.{Ended, Tests}
+
+pub ended_some : {X : Type 0} (o : Option X) (b : Bool) (x l : X) → b ≡ is_some o → x ≡ unwrap_or o l → b ≡ true → o ≡ Some x
+ended_some None b x l t s h = absurd (both_ways b t h)
+ended_some (Some y) b x l t s h = ap Some (sym s)
+
+pub ended-none : {X : Type 0} (o : Option X) (b : Bool) (x l : X) → b ≡ is_some o → x ≡ unwrap_or o l → b ≡ false → (o ≡ None) × (x ≡ l)
+ended-none None b x l t s h = (refl, s)
+ended-none (Some y) b x l t s h = absurd (both_ways b h t)
 
 pub tested : {F V : Type 0} {g : Shared F (Bor (LentEncounter V) × Unit {0}) Bool} {t : F} (f : Encounter V → Bool) {p : Bor (LentEncounter V)} {b : Bool} → Tests g t f → g.post t (p, tt) b → b ≡ f (encounter_of p.now)
 tested f {p} {b} h is = h p.now b (record { shown = p; shows = refl; says = record { met = is } })
@@ -117,3 +127,24 @@ module _ {V C R : Type 0} (m : Meaning V C) (law : Lawful m) (r : Results R) (c 
   from-least f e x b y w is h =
       subst (λ es. Ended m c f es (least e) b y) (ap from is ∙ all_left e w)
       (subst (λ l. Ended m c f (from x) l b y) (ap least is ∙ reset-reset m law r c ok (places c) (separate 0 c.quantities) e) h)
+
+-- By the marks, from an encounter e that has the values of lent but for needed ones.
+module _ {V C R : Type 0} (m : Meaning V C) (law : Lawful m) (r : Results R) (c : Contents V C R) (ok : Acceptable m r c) (f : Encounter V → Bool) (lent e : Encounter V) (w : whole lent ≡ true) (v : whole e ≡ true)
+    (same : reset m c (places c) e ≡ reset m c (places c) lent) where
+  pub marks_hit : {b : Bool} {x : Encounter V} → EarliestFound m c f e b x → b ≡ true → Ended m c f (from_starts m c lent) (reset m c (places c) lent) true x
+  marks_hit {b} {x} h there =
+      let starts = same-starts m law r c ok lent e w v same in
+      let is : first_of f (from_starts m c lent) ≡ Some x = ap (first_of f) (sym starts) ∙ ended_some (first_of f (from_starts m c e)) b x e h.told h.shows there in
+      record { told = sym (ap is_some is); shows = sym (ap (λ o. unwrap_or o (reset m c (places c) lent)) is); others = h.others ∙ same; lengths = h.lengths }
+
+  pub marks_over : {b : Bool} {x y : Encounter V} → EarliestFound m c f e b x → b ≡ false → y ≡ reset m c (places c) x → Ended m c f (from_starts m c lent) (reset m c (places c) lent) false y
+  marks_over {b} {x} {y} h gone is =
+      let starts = same-starts m law r c ok lent e w v same in
+      let none : first_of f (from_starts m c lent) ≡ None = ap (first_of f) (sym starts) ∙ (ended-none (first_of f (from_starts m c e)) b x e h.told h.shows gone).0 in
+      let least : y ≡ reset m c (places c) lent = is ∙ h.others ∙ same in
+      record {
+        told = sym (ap is_some none);
+        shows = least ∙ sym (ap (λ o. unwrap_or o (reset m c (places c) lent)) none);
+        others = ap (reset m c (places c)) least ∙ reset-reset m law r c ok (places c) (separate 0 c.quantities) lent;
+        lengths = ap whole is ∙ reset-whole m c (places c) x h.lengths;
+      }

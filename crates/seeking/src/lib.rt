@@ -2,5 +2,6 @@
 
 #![tactic(auto)]
 
+pub mod marked;
+pub mod one_by_one;
 pub mod seek;
-mod sought;

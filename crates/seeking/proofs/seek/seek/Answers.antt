@@ -1,14 +1,7 @@
-use Rattle.std.proofs.Common.{◌≡◌, ap, ◌∙◌}
-use Rattle.tables.specs.Contents.{places, whole}
-use Rattle.tables.specs.Starts.{reset}
-use Rattle.lists.specs.Held.{seen, shown}
-use Rattle.seeking.proofs.Seeking.{reset-whole, counted, from-least}
+use Rattle.std.proofs.Common.{subst}
+use Rattle.seeking.specs.Seeks.{RightlyMarked}
 use Rattle.seeking.proofs.seek.seek.Goals as goal
 
-pub returns-clause-after : goal.returns-clause-after
-returns-clause-after g c = λ f e t ok w n same.
-    let m = g.K.Kind.meaning in
-    let s = seen c.args.view.now in
-    let is : shown c.reset.new.at ≡ reset m s (places s) e = c.reset.ensures.after ∙ same in
-    from-least m g.met.K.Kind.lawful g.R.ResultKind.results s ok f e (shown c.reset.new.at) c.seek_on.result (shown c.seek_on.new.at) w is
-    (c.seek_on.ensures.after f t ok (ap whole is ∙ reset-whole m s (places s) e w) (counted m g.met.K.Kind.lawful g.R.ResultKind.results s ok e (shown c.reset.new.at) c.args.count w is n))
+pub returns-in-Some-clause-after : goal.returns-in-Some-clause-after
+returns-in-Some-clause-after g c = λ right n t f ans tells.
+    c.seek_by_marks.ensures.after (subst (RightlyMarked g.K.Kind.meaning c.args.view.now c.args.marks.now) c.in-Some.is right) t f ans tells

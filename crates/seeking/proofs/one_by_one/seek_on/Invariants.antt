@@ -5,7 +5,7 @@ use Rattle.tables.specs.Starts.{remaining}
 use Rattle.lists.specs.Held.{SameShowing, seen, shown}
 use Rattle.seeking.specs.Seeks.{Tests}
 use Rattle.seeking.proofs.Seeking.{On}
-use Rattle.seeking.proofs.seek.seek_on.Given as goal
+use Rattle.seeking.proofs.one_by_one.seek_on.Given as goal
 
 abbrev pub invariant-loop : goal.invariant-loop
 invariant-loop g l =

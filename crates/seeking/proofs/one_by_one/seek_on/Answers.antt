@@ -2,7 +2,7 @@ use Rattle.std.proofs.Common.{ap, ◌∙◌}
 use Rattle.lists.specs.Held.{seen, shown}
 use Rattle.turning.proofs.Turns.{same-on}
 use Rattle.seeking.proofs.Seeking.{tested, hit, step, over, unfinished}
-use Rattle.seeking.proofs.seek.seek_on.Goals as goal
+use Rattle.seeking.proofs.one_by_one.seek_on.Goals as goal
 
 pub returns-then-is_sought : goal.returns-then-is_sought
 returns-then-is_sought g c = record {
