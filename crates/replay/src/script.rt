@@ -12,6 +12,7 @@ pub enum Call<'a, V, C, R> {
     Withdraw,
 }
 
+// What is answered to a call.
 #[derive(Clone, Copy)]
 pub enum Answer<R> {
     // The edit is made, or the sheet withdrawn.
