@@ -45,7 +45,7 @@ pub enum Published {
     Amended,
 }
 
-// Why the two differ, or are not compared.
+// Why the two differ.
 #[derive(Clone, Copy)]
 pub enum Why {
     // The table has a hole as well as a conflict.

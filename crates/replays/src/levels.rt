@@ -10,9 +10,8 @@ use std::alloc::{AllocError, Global};
 
 type LevelCall = Call<'static, i32, Band, Figure>;
 
-// The lists of an encounter have 16 values, so these are arrays of as many.
-// Encounters of two low flights, of a high pair, of a flight too high for most, of one out of
-// range, and one whose first list is too short.
+// Lists of 16 values, and one list of 15 in the last: a low flight and a high one, two high ones, one
+// from 600 on with a low one, one out of range, and one whose first list is too short.
 const LOW: Encounter<'static, i32> = Encounter {
     a: &[100; 16],
     b: &[300; 16],

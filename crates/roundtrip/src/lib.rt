@@ -32,8 +32,8 @@ mod tests {
     // Whether a line and its end are what is written up to a place.
     fn is_written(out: &[u8], end: Option<usize>, line: &[u8]) -> bool {
         end.and_then(|end| out.get(..end))
-            .and_then(|written| written.split_last())
-            .is_some_and(|(_, text)| text == line)
+            .and_then(|written| written.strip_suffix(b"\n"))
+            .is_some_and(|text| text == line)
     }
 
     // The byte at which a row's line is refused. Rows and columns have two such functions each: one

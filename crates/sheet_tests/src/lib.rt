@@ -64,7 +64,7 @@ mod tests {
 
     // One more of each than a sheet can have, at fault otherwise too.
     fn full_sheet(rt: &impl Abort, draft: &mut Draft, lists: &mut Lists<'_, Measure, Figure>) {
-        // a count with no index: one more of each
+        // 16 of each, as many as fit
         for _ in 0..16 {
             let _ = draft.name_quantity(lists, levels(0, 9));
             let _ = draft.add_row(lists, row(0, Mode::B));

@@ -34,6 +34,8 @@ mod tests {
         gaps: u32,
         clashes: u32,
         asymmetries: u32,
+        all_barred: u32,
+        others: u32,
     }
 
     impl Answers {
@@ -43,14 +45,23 @@ mod tests {
                 Ok(_) => &mut self.issued,
                 Err(SheetFault::Gap) => &mut self.gaps,
                 Err(SheetFault::Clash { .. }) => &mut self.clashes,
-                _ => &mut self.asymmetries,
+                Err(SheetFault::Asymmetry) => &mut self.asymmetries,
+                Err(SheetFault::AllBarred) => &mut self.all_barred,
+                Err(_) => &mut self.others,
             };
             *place = place.saturating_add(1);
         }
 
-        // Was each answer given?
+        // Was each answer given that issue has for sheets like these, and no other?
         fn are_all_seen(self) -> bool {
-            self.issued > 0 && self.gaps > 0 && self.clashes > 0 && self.asymmetries > 0
+            let seen = [
+                self.issued,
+                self.gaps,
+                self.clashes,
+                self.asymmetries,
+                self.all_barred,
+            ];
+            self.others == 0 && seen.iter().all(|n| *n > 0)
         }
     }
 
@@ -82,6 +93,8 @@ mod tests {
             gaps: 0,
             clashes: 0,
             asymmetries: 0,
+            all_barred: 0,
+            others: 0,
         };
         for _ in 0..sheets {
             let mut draft = Draft::open();
