@@ -2,11 +2,20 @@
 ghost use Rattle.std.specs.Prelude.{◌≡◌, ◌+◌, ◌≤◌, length, drop, slice_index};
 ghost use Rattle.text.specs.Fields.{up_to};
 
+// What is left of a text from a place on: nothing past the end.
+fn left_from(bytes: &[u8], from: usize) -> &[u8]
+    ensures { result.now ≡ drop from bytes.now }
+{
+    bytes.get(from..).unwrap_or(&[])
+}
+
 // The place of the first `sep` from `from` on, or the end; past the end, `from` itself.
 pub fn until(bytes: &[u8], from: usize, sep: u8) -> usize
     ensures { (result ≡ from + up_to sep (drop from bytes.now)) × ((from ≤ length bytes.now → result ≤ length bytes.now)) }
 {
-    from + bytes.iter().skip(from).take_while(|b| **b != sep).count()
+    // No `skip` of an iterator, which would pass over each byte before `from`.
+    let left = left_from(bytes, from);
+    from + left.iter().take_while(|b| **b != sep).count()
 }
 
 // The byte at a place, or 0 past the end.

@@ -10,12 +10,21 @@ module _ (test : ℕ → Bool) where
   none-here k zero h = refl
   none-here k (suc n) h = none-here (k + 1) n (λ j a b. h j (omega arith) (omega arith)) ∙ ap (λ b. cond b (Some k) (first_from test (k + 1) n)) (sym (h k (omega arith) (omega arith)))
 
-  first-here : (k n i : ℕ) → k ≤ i → i < k + n → test i ≡ true → ((j : ℕ) → k ≤ j → j < i → test j ≡ false) → Some i ≡ first_from test k n
-  first-here k zero i a b e h = absurd (omega arith)
-  first-here k (suc n) i a b e h =
+  -- one turn of a loop from k up to e
+  pub first-here : (k e : ℕ) {t r : Bool} → k < e → t ≡ test k → t ≡ r → cond r (Some k) (first_from test (k + 1) (e - (k + 1))) ≡ first_from test k (e - k)
+  first-here k e h p q =
+      let s : e - k ≡ suc (e - (k + 1)) = omega arith in
+      ap (λ b. cond b (Some k) (first_from test (k + 1) (e - (k + 1)))) (sym q ∙ p) ∙ sym (ap (first_from test k) s)
+
+  pub first-end : (k e : ℕ) → e ≤ k → first_from test k (e - k) ≡ None
+  first-end k e h = let s : e - k ≡ 0 = omega arith in ap (first_from test k) s
+
+  first-at : (k n i : ℕ) → k ≤ i → i < k + n → test i ≡ true → ((j : ℕ) → k ≤ j → j < i → test j ≡ false) → Some i ≡ first_from test k n
+  first-at k zero i a b e h = absurd (omega arith)
+  first-at k (suc n) i a b e h =
       ⊎_elim
       (λ y. ap Some y ∙ ap (λ b. cond b (Some k) (first_from test (k + 1) n)) (sym e ∙ ap test y))
-      (λ y. first-here (k + 1) n i (omega arith) (omega arith) e (λ j c d. h j (omega arith) d) ∙ ap (λ b. cond b (Some k) (first_from test (k + 1) n)) (sym (h k (omega arith) (omega arith))))
+      (λ y. first-at (k + 1) n i (omega arith) (omega arith) e (λ j c d. h j (omega arith) d) ∙ ap (λ b. cond b (Some k) (first_from test (k + 1) n)) (sym (h k (omega arith) (omega arith))))
       (cases_eq i k)
 
   -- what a search from the number after a up to 31 finds
@@ -23,7 +32,7 @@ module _ (test : ℕ → Bool) where
       → MatchOption r ((j : ℕ) → s ≤ j → j < 32 → test j ≡ false) (λ i. (s ≤ i) × (i < 32) × (test i ≡ true) × ((j : ℕ) → s ≤ j → j < i → test j ≡ false))
       → r ≡ first_from test (a + 1) (31 - a)
   first-found a s None e h = none-here (a + 1) (31 - a) (λ j p q. h j (omega arith) (omega arith))
-  first-found a s (Some i) e h = let low = h.0 in let high = h.1 in first-here (a + 1) (31 - a) i (omega arith) (omega arith) h.2 (λ j p q. h.3 j (omega arith) q)
+  first-found a s (Some i) e h = let low = h.0 in let high = h.1 in first-at (a + 1) (31 - a) i (omega arith) (omega arith) h.2 (λ j p q. h.3 j (omega arith) q)
 
   pub first_range : (k n s : ℕ) → first_from test k n ≡ Some s → (k ≤ s) × (s < k + n)
   first_range k zero s e = let z : ◌≡◌ {A = ℕ} 0 1 = cc in absurd (omega arith)

@@ -6,7 +6,6 @@ use lists::lent::Encounter;
 use measure::Band;
 use replay::script::Call;
 use results::figure::Figure;
-use std::alloc::{AllocError, Global};
 
 type LevelCall = Call<'static, i32, Band, Figure>;
 
@@ -132,11 +131,18 @@ fn barring() -> [LevelCall; 20] {
     ]
 }
 
-// The three parts of the script.
-pub fn script(alloc: Global) -> Result<Vec<LevelCall>, AllocError> {
-    let mut script = Vec::new(alloc);
-    script.extend_from_slice(&writing())?;
-    script.extend_from_slice(&asking())?;
-    script.extend_from_slice(&barring())?;
-    Ok(script)
+// The second part of the script and the third. An array, so that the program needs no memory but its own.
+fn asking_and_barring() -> [LevelCall; 38] {
+    let mut script = [Call::Issue; 38];
+    script[..18].copy_from_slice(&asking());
+    script[18..].copy_from_slice(&barring());
+    script
+}
+
+// The whole script. Of a list that is written in three parts a proof no longer knows how long it is.
+pub fn script() -> [LevelCall; 58] {
+    let mut script = [Call::Issue; 58];
+    script[..20].copy_from_slice(&writing());
+    script[20..].copy_from_slice(&asking_and_barring());
+    script
 }

@@ -73,12 +73,10 @@ fn play_levels(rt: &HostRuntime) -> io::Result<()> {
     let mut encounter = EncounterMemory::new(0);
     let lists = &mut memory.lend();
     let at = &mut encounter.lend();
-    let script = levels::script(rt.alloc())?;
+    let script = levels::script();
     println!(rt; "levels")?;
-    let mut answers = vec![in rt.alloc(); Answer::NotAllowed; script.len()]?;
-    play(rt, &script, lists, at, &mut answers)?;
-    let mut few = vec![in rt.alloc(); Answer::NotAllowed; script.len().saturating_sub(1)]?;
-    play(rt, &script, lists, at, &mut few)
+    play(rt, &script, lists, at, &mut [Answer::NotAllowed; 58])?;
+    play(rt, &script, lists, at, &mut [Answer::NotAllowed; 57])
 }
 
 // A script on lists of which one is not of right length.
@@ -108,10 +106,9 @@ fn play_names(rt: &HostRuntime) -> io::Result<()> {
     let mut encounter = EncounterMemory::new(0);
     let lists = &mut memory.lend();
     let at = &mut encounter.lend();
-    let script = periods::script(rt.alloc())?;
+    let script = periods::script();
     println!(rt; "names")?;
-    let mut answers = vec![in rt.alloc(); Answer::NotAllowed; script.len().saturating_add(2)]?;
-    play(rt, &script, lists, at, &mut answers)
+    play(rt, &script, lists, at, &mut [Answer::NotAllowed; 48])
 }
 
 fn main(rt: HostRuntime) -> io::Result<()> {

@@ -6,7 +6,6 @@ use lists::lent::Encounter;
 use names::NameSet;
 use replay::script::Call;
 use results::period::Period;
-use std::alloc::{AllocError, Global};
 
 type NameCall = Call<'static, u32, NameSet, Period>;
 
@@ -99,10 +98,10 @@ fn counting() -> [NameCall; 22] {
     ]
 }
 
-// The two parts of the script.
-pub fn script(alloc: Global) -> Result<Vec<NameCall>, AllocError> {
-    let mut script = Vec::new(alloc);
-    script.extend_from_slice(&barring())?;
-    script.extend_from_slice(&counting())?;
-    Ok(script)
+// The two parts of the script, in an array as that over levels.
+pub fn script() -> [NameCall; 46] {
+    let mut script = [Call::Issue; 46];
+    script[..24].copy_from_slice(&barring());
+    script[24..].copy_from_slice(&counting());
+    script
 }

@@ -1,3 +1,4 @@
 pub mod Results
 pub mod Figures
 pub mod Periods
+pub mod PeriodResultLemmas

@@ -86,10 +86,17 @@ mod tests {
         assert_eq!(rt; number(draft.name_quantity(lists, levels(9, 0))), 1);
     }
 
+    // Puts what a sheet could use into lists that none uses yet: a draft just opened does not see it.
+    fn put_old_items(lists: &mut Lists<'_, Measure, Figure>) {
+        lists.quantities.fill(levels(0, 0));
+        lists.rows.fill(row(0, Mode::A));
+    }
+
     #[test]
     fn draft_calls(rt: HostRuntime) {
         let mut memory = SheetMemory::new(0, figure(0));
         let mut lists = memory.lend();
+        put_old_items(&mut lists);
         small_sheet(&rt, &mut Draft::open(), &mut lists);
         full_sheet(&rt, &mut Draft::open(), &mut lists);
     }
@@ -109,6 +116,7 @@ mod tests {
             entries,
             results,
         };
+        put_old_items(&mut lists);
         short_lists(&rt, &mut Draft::open(), &mut lists);
     }
 }
